@@ -1,0 +1,10 @@
+//! Shared plain data: words, spans and the tokens of extended C.
+#![tactic(auto)]
+
+mod memory;
+mod span;
+mod token;
+
+pub use memory::Memory;
+pub use span::{Place, Span};
+pub use token::{Key, Mark, Punct, Shape, Token, Word};
