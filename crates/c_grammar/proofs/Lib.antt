@@ -1,0 +1,8 @@
+pub mod Sets
+pub mod Loops
+pub mod Bounds
+pub mod Repeats
+pub mod Local
+pub mod Deeper
+pub mod Advance
+pub mod Live

@@ -1,0 +1,17 @@
+-- A loop of a reader, turn by turn.
+use Rattle.std.proofs.Common.{◌≡◌, ℕ, ◌+◌, ◌<◌, ◌≤◌, length, Result, Ok, Err}
+use Rattle.c_grammar.specs.declared.refusal.Refusal.{Refusal}
+use Rattle.c_grammar.specs.Reader.{Input, Reader, Turn, More, Last, Loop}
+use Rattle.c_grammar.specs.Grammar.{read}
+use Rattle.c_grammar.proofs.Loops.{goes, ends, fails}
+use Rattle.c_grammar.proofs.Bounds.{Bounded}
+
+module _ {A S : Type 0} (f : S → Reader (Turn S A)) (B : Bounded f) (d : ℕ) (s : S) (i : Input) where
+  pub goes_on : (t : S) (j : Input) → read d (f s) i ≡ Ok (More t, j) → read d (Loop f s) i ≡ read d (Loop f t) j
+  goes_on t j e = goes _ (B.left d) (B.shrinks d) _ _ s i t j (B.few d s i) (B.few d t j) e
+
+  pub ends_with : (a : A) (j : Input) → read d (f s) i ≡ Ok (Last a, j) → read d (Loop f s) i ≡ Ok (a, j)
+  ends_with a j e = ends _ (B.left d) (B.shrinks d) _ s i a j e
+
+  pub fails_with : (x : Refusal) → read d (f s) i ≡ Err x → read d (Loop f s) i ≡ Err x
+  fails_with x e = fails _ (B.left d) (B.shrinks d) _ s i x e
