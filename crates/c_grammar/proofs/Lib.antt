@@ -6,3 +6,4 @@ pub mod Local
 pub mod Deeper
 pub mod Advance
 pub mod Live
+pub mod Chain
