@@ -2,6 +2,7 @@
 
 ghost use Rattle.std.specs.Prelude.{◌≡◌, IfOk};
 ghost use Rattle.c_printer.specs.Layout as layout;
+ghost use Rattle.c_printer.specs.ReadBack.{IsReadBack};
 
 use std::alloc::Global;
 
@@ -13,7 +14,8 @@ use crate::shapes::declaration_shapes;
 
 /// The text of declarations, one a line. It takes time linear in the text.
 pub fn print(alloc: Global, items: &[Declaration], words: &Words) -> Result<Vec<u8>, Memory>
-    ensures { IfOk result (λ text. text.items ≡ layout.layout words.now items.now) }
+    ensures text { IfOk result (λ text. text.items ≡ layout.layout words.now items.now) }
+    ensures read_back { IfOk result (λ text. IsReadBack words.now items.now text.items) }
 {
     let mut text = Vec::new(alloc);
     for item in items {
