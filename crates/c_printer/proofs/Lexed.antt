@@ -1,5 +1,5 @@
 -- The tokens of a line's text are those of the line.
-use Rattle.std.proofs.Common.{◌≡◌, refl, subst, ap, sym, ◌∙◌, ℕ, ◌+◌, Bool, true, false, ◌||◌, cond, List, [], ◌∷◌, ◌++◌, length, map, Option, Some, None, is_some, unwrap_or, Result, Ok, Err, append_assoc, arith}
+use Rattle.std.proofs.Common.{◌≡◌, refl, subst, ap, sym, ◌∙◌, ℕ, ◌+◌, Bool, true, false, ◌||◌, cond, List, [], ◌∷◌, ◌++◌, length, map, Option, Some, is_some, unwrap_or, Ok, append_assoc}
 use Rattle.c_tokens.specs.declared.token.Punct.TheVariants as p
 use Rattle.c_tokens.specs.declared.token.Shape.{Shape}
 use Rattle.c_tokens.specs.declared.token.Shape.TheVariants as s
@@ -9,7 +9,7 @@ use Rattle.c_tokens.specs.Spelling.{Sort, Spelling, space, token, refused, spell
 use Rattle.c_tokens.specs.Tokens.{Piece, meaning, pieces_from, unless_refused, shape_of, token_at, before, adds, tokens_in}
 use Rattle.c_printer.specs.Texts.{text_of_shape}
 use Rattle.c_printer.specs.Layout.{is_close_after, is_close_before, is_close, separator, line}
-use Rattle.c_printer.proofs.Longest.{NoLonger, Stops, no_longer, empty_is_none, space_breaks, line_feed_breaks, closing_breaks, comma_breaks, semicolon_breaks, left_bracket_breaks, right_bracket_breaks, opening_is_whole, left_bracket_is_whole, space_is_whole, line_feed_is_whole}
+use Rattle.c_printer.proofs.Longest.{NoLonger, Stops, no_longer, space_breaks, line_feed_breaks, closing_breaks, comma_breaks, semicolon_breaks, left_bracket_breaks, right_bracket_breaks, opening_is_whole, left_bracket_is_whole, space_is_whole, line_feed_is_whole}
 use Rattle.c_printer.proofs.Pieces.{pieces_after}
 use Rattle.c_printer.proofs.Written.{IsWritten, AllWritten}
 
@@ -44,7 +44,8 @@ module _ (names : List (List ℕ)) (end : ℕ) where
         lexed = ap (tokens_in names end) (pieces_after t r at (some_of _ _ e) stops)
             ∙ ap (λ m. adds names piece m (tokens_in names end (unless_refused m (pieces_from (at + length t) 0 r)))) meant
             ∙ ap (before one) others.lexed;
-        shapes = ap (λ v. shape_of names t sort ∷ v) others.shapes }
+        shapes = ap (λ v. shape_of names t sort ∷ v) others.shapes;
+      }
 
   white_space : (t r : List ℕ) (u : List Shape) → spelling_of t ≡ Some space → Stops t r → Lexes names end r u → Lexes names end (t ++ r) u
   unfolding tokens_in meaning
@@ -57,7 +58,8 @@ module _ (names : List (List ℕ)) (end : ℕ) where
         lexed = ap (tokens_in names end) (pieces_after t r at (some_of _ _ e) stops)
             ∙ ap (λ m. adds names piece m (tokens_in names end (unless_refused m (pieces_from (at + length t) 0 r)))) meant
             ∙ others.lexed;
-        shapes = others.shapes }
+        shapes = others.shapes;
+      }
 
   stops_anywhere : (t r : List ℕ) → ((c : ℕ) → NoLonger t c) → Stops t r
   stops_anywhere t [] none = tt
@@ -107,10 +109,10 @@ module _ (names : List (List ℕ)) (end : ℕ) where
   after_token a b others r u true e written rest =
       let next = separator b others ++ (line names others ++ r) in
       written_lexes a (line names (b ∷ others) ++ r) u written
-        (subst (Stops (text_of_shape names a)) (sym (line_to b others r)) (neighbours a b next (is_close_after a) refl e written)) rest
+      (subst (Stops (text_of_shape names a)) (sym (line_to b others r)) (neighbours a b next (is_close_after a) refl e written)) rest
   after_token a b others r u false e written rest =
       written_lexes a (32 ∷ (line names (b ∷ others) ++ r)) u written
-        (no_longer 32 space_breaks (text_of_shape names a) (some_of _ _ written.spelled)) (space_lexes _ u rest)
+      (no_longer 32 space_breaks (text_of_shape names a) (some_of _ _ written.spelled)) (space_lexes _ u rest)
 
   -- a line, and what follows it
   pub line_lexes : (shapes : List Shape) (r : List ℕ) (u : List Shape) → AllWritten names shapes → Lexes names end r u → Lexes names end (line names shapes ++ r) (shapes ++ u)
@@ -118,7 +120,7 @@ module _ (names : List (List ℕ)) (end : ℕ) where
   line_lexes [] r u all rest = rest
   line_lexes (a ∷ []) r u all rest =
       subst (λ text. Lexes names end text (a ∷ u)) (sym (line_to a [] r))
-        (written_lexes a (10 ∷ r) u all.0 (no_longer 10 line_feed_breaks (text_of_shape names a) (some_of _ _ all.0.spelled)) (line_feed_lexes r u rest))
+      (written_lexes a (10 ∷ r) u all.0 (no_longer 10 line_feed_breaks (text_of_shape names a) (some_of _ _ all.0.spelled)) (line_feed_lexes r u rest))
   line_lexes (a ∷ b ∷ others) r u all rest =
       subst (λ text. Lexes names end text (a ∷ b ∷ (others ++ u))) (sym (line_to a (b ∷ others) r))
-        (after_token a b others r (b ∷ (others ++ u)) (is_close a b) refl all.0 (line_lexes (b ∷ others) r u all.1 rest))
+      (after_token a b others r (b ∷ (others ++ u)) (is_close a b) refl all.0 (line_lexes (b ∷ others) r u all.1 rest))

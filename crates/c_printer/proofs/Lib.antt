@@ -1,3 +1,4 @@
+pub mod Bools
 pub mod Steps
 pub mod Longest
 pub mod Pieces

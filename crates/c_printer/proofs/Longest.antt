@@ -1,12 +1,11 @@
 -- The longest spelling at a place where a spelling stands that none goes on.
-use Rattle.std.proofs.Common.{◌≡◌, refl, subst, ap, sym, ◌∙◌, ℕ, zero, suc, ◌+◌, ◌-◌, ◌<◌, ◌≤◌, Bool, true, false, ◌&&◌, ◌||◌, not, nat_eq, cond, bytes_eq, List, [], ◌∷◌, ◌++◌, length, take, Option, Some, None, is_some, unwrap_or, codes, add-suc, arith}
+use Rattle.std.proofs.Common.{◌≡◌, refl, subst, sym, ℕ, Bool, true, false, ◌&&◌, ◌||◌, not, nat_eq, cond, bytes_eq, List, [], ◌∷◌, ◌++◌, Some, None, is_some}
 use Rattle.std.specs.List.{list_all}
-use Rattle.std.proofs.lemmas.List.{length-append}
 use Rattle.std.proofs.lemmas.Bool.{eqb-true}
 use Rattle.std.proofs.lemmas.Slice.Eq.{bytes_eq-Decides}
 use Rattle.c_tokens.specs.Bytes.{is_digit, is_letter, is_word_byte, is_white_space, is_sign, is_exponent_mark}
-use Rattle.c_tokens.specs.Spelling.{Table, Spelling, space, token, refused, spelling_of, sign_spelling, word_spelling, find_text, keywords, punctuators, word_marks, sign_marks, unread, is_word, is_marked_word, is_word_after_at, is_number, goes_on_number, starts_with_digit, is_decimal, is_space}
-use Rattle.c_tokens.specs.Tokens.{longest, longest_up_to, meaning, pieces_from, Piece, unless_refused}
+use Rattle.c_tokens.specs.Spelling.{Table, spelling_of, sign_spelling, find_text, punctuators, sign_marks, unread, is_word, is_marked_word, is_word_after_at, is_number, goes_on_number, starts_with_digit, is_space}
+use Rattle.c_printer.proofs.Bools.{and_first, and_second, and_false, or_true}
 
 -- no spelling begins with this text and then this byte
 abbrev pub NoLonger : List ℕ → ℕ → Type 0
@@ -43,33 +42,17 @@ pub record Breaks (c : ℕ) : Type 0 where
   pub free_marks : IsFree c sign_marks
   pub free_unread : IsFree c unread
 
-and_false : (a b : Bool) → b ≡ false → (a && b) ≡ false
-and_false true b h = h
-and_false false b h = refl
-
-or_true : (a b : Bool) → b ≡ true → (a || b) ≡ true
-or_true true b h = refl
-or_true false b h = h
-
 not_both : (a : Bool) → a ≡ true → not a ≡ true → ⊥
 not_both true h k = absurd (cc)
 not_both false h k = absurd (cc)
-
-first_of_both : (a b : Bool) → (a && b) ≡ true → a ≡ true
-first_of_both true b h = refl
-first_of_both false b h = h
-
-second_of_both : (a b : Bool) → (a && b) ≡ true → b ≡ true
-second_of_both true b h = h
-second_of_both false b h = absurd (cc)
 
 -- a text with a mark that no entry has is not found
 unfound : {A : Type 0} (q : List ℕ → Bool) (text : List ℕ) (table : Table A) → q text ≡ true → list_all (λ entry. not (q entry.0)) table ≡ true → find_text text table ≡ None
 unfolding find_text
 unfound q text [] h k = refl
-unfound q text (entry ∷ others) h k = tested (bytes_eq entry.0 text) refl (unfound q text others h (second_of_both _ _ k)) where
+unfound q text (entry ∷ others) h k = tested (bytes_eq entry.0 text) refl (unfound q text others h (and_second _ _ k)) where
   tested : (b : Bool) → bytes_eq entry.0 text ≡ b → find_text text others ≡ None → cond b (Some entry.1) (find_text text others) ≡ None
-  tested true e none = absurd (not_both (q entry.0) (subst (λ u. q u ≡ true) (sym ((bytes_eq-Decides entry.0 text).0 e)) h) (first_of_both _ _ k))
+  tested true e none = absurd (not_both (q entry.0) (subst (λ u. q u ≡ true) (sym ((bytes_eq-Decides entry.0 text).0 e)) h) (and_first _ _ k))
   tested false e none = none
 
 pub empty_is_none : is_some (spelling_of []) ≡ true → ⊥

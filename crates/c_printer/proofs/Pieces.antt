@@ -1,5 +1,5 @@
 -- The pieces of a text that begins with a whole spelling.
-use Rattle.std.proofs.Common.{◌≡◌, refl, subst, ap, sym, ◌∙◌, ℕ, zero, suc, ◌+◌, ◌-◌, ◌≤◌, Bool, true, false, cond, List, [], ◌∷◌, ◌++◌, length, take, is_some, add-suc, add-zero, add-one, arith}
+use Rattle.std.proofs.Common.{◌≡◌, ap, sym, ◌∙◌, ℕ, zero, suc, ◌+◌, ◌-◌, true, false, cond, List, [], ◌∷◌, ◌++◌, length, take, is_some, add-suc, add-zero, arith}
 use Rattle.std.proofs.Math.Seq.{take-append-add, take-append_seam}
 use Rattle.std.proofs.lemmas.List.{length-append}
 use Rattle.c_tokens.specs.Spelling.{spelling_of}
@@ -39,7 +39,7 @@ first_piece b t r at e =
     let P : List ℕ → List Piece = λ u. record { start = at; text = u } ∷ unless_refused (meaning u) (pieces_from (at + 1) (length u - 1) (t ++ r)) in
     let one : suc (length t) - 1 ≡ length t = omega arith in
     ap P whole ∙ ap (λ u. record { start = at; text = b ∷ t } ∷ unless_refused (meaning (b ∷ t)) u)
-        (ap (λ n. pieces_from (at + 1) n (t ++ r)) one ∙ inside t r (at + 1) ∙ ap (λ n. pieces_from n 0 r) (omega arith))
+    (ap (λ n. pieces_from (at + 1) n (t ++ r)) one ∙ inside t r (at + 1) ∙ ap (λ n. pieces_from n 0 r) (omega arith))
 
 -- The pieces begin with the spelling, and go on after it.
 pub pieces_after : (t r : List ℕ) (at : ℕ) → is_some (spelling_of t) ≡ true → Stops t r

@@ -1,8 +1,7 @@
 -- A printed text is read back.
-use Rattle.std.proofs.Common.{◌≡◌, refl, subst, ap, sym, ◌∙◌, ℕ, zero, suc, ◌+◌, ◌≤◌, max, Bool, true, false, bytes_eq, List, [], ◌∷◌, ◌++◌, length, map, get_or, Result, Ok, None, append_assoc, add-one, arith}
-use Rattle.std.specs.List.{All, AllPass, IsDistinct}
+use Rattle.std.proofs.Common.{◌≡◌, refl, subst, ap, sym, ◌∙◌, ℕ, ◌+◌, ◌≤◌, true, bytes_eq, List, [], ◌∷◌, ◌++◌, length, map, get_or, None, append_assoc, add-one, arith}
+use Rattle.std.specs.List.{AllPass, IsDistinct}
 use Rattle.std.proofs.lemmas.List.Elements.{All-head, All-tail}
-use Rattle.c_tokens.specs.declared.token.Key.TheVariants as key
 use Rattle.c_tokens.specs.declared.token.Punct.TheVariants as punct
 use Rattle.c_tokens.specs.declared.token.Shape.{Shape}
 use Rattle.c_tokens.specs.declared.token.Shape.TheVariants as s
@@ -15,9 +14,9 @@ use Rattle.c_grammar.specs.Reader.{shape_at, the_end}
 use Rattle.c_grammar.specs.Spells.{Stand, SpellsDeclaration}
 use Rattle.c_printer.specs.Spelled.{spelled, spelled_declaration, depth_of, deepest}
 use Rattle.c_printer.specs.Layout.{line, layout}
-use Rattle.c_printer.specs.ReadBack.{SpellInTurn, ReadsBack, IsReadBack}
-use Rattle.c_printer.proofs.Spelling.{Parted, parted, spells}
-use Rattle.c_printer.proofs.Lexed.{Lexed, Lexes, nothing_lexes, line_lexes}
+use Rattle.c_printer.specs.ReadBack.{SpellInTurn, IsReadBack}
+use Rattle.c_printer.proofs.Spelling.{parted, spells}
+use Rattle.c_printer.proofs.Lexed.{Lexes, nothing_lexes, line_lexes}
 use Rattle.c_printer.proofs.Declared.{declaration_written}
 
 -- the tokens of all declarations
@@ -35,8 +34,8 @@ layout_lexes names distinct end (t ∷ others) named =
     let here : is_named_declaration names t ≡ true = All-head (λ d. is_named_declaration names d ≡ true) t others named in
     let later : AllPass (is_named_declaration names) others = All-tail (λ d. is_named_declaration names d ≡ true) t others named in
     subst (Lexes names end (line names (spelled_declaration t) ++ layout names others)) (sym (append_assoc (spelled_declaration t) (all_spelled others) (s.End ∷ [])))
-      (line_lexes names end (spelled_declaration t) (layout names others) (all_spelled others ++ s.End ∷ []) (declaration_written names distinct t here)
-        (layout_lexes names distinct end others later))
+    (line_lexes names end (spelled_declaration t) (layout names others) (all_spelled others ++ s.End ∷ []) (declaration_written names distinct t here)
+    (layout_lexes names distinct end others later))
 
 -- ---- tokens of these shapes stand in their places
 
@@ -64,16 +63,18 @@ module _ (w : List Token) where
         free = refl;
         last = parts.middle;
         value = spells w t.value 2 d (i + 3) parts.middle pure deep (subst (λ k. Stand (spelled t.value 2) w k parts.middle) three parts.first);
-        ends = parts.second }
+        ends = parts.second;
+      }
 
   all_spell : (items : List Declaration) → AllPass is_pure_declaration items → (d i j : ℕ) → deepest items ≤ d → Stand (all_spelled items) w i j → SpellInTurn d w items i j
   unfolding deepest
   all_spell [] pure d i j deep st = st
   all_spell (t ∷ others) pure d i j deep st =
-      let parts = parted (spelled_declaration t) (all_spelled others) w i j st in
-      (parts.middle,
+      let parts = parted (spelled_declaration t) (all_spelled others) w i j st in (
+        parts.middle,
         one_spells t (All-head (λ d. is_pure_declaration d ≡ true) t others pure) d i parts.middle (omega arith) parts.first,
-        all_spell others (All-tail (λ d. is_pure_declaration d ≡ true) t others pure) d parts.middle j (omega arith) parts.second)
+        all_spell others (All-tail (λ d. is_pure_declaration d ≡ true) t others pure) d parts.middle j (omega arith) parts.second,
+      )
 
 pub layout_is_read_back : (names : List (List ℕ)) (items : List Declaration) → IsReadBack names items (layout names items)
 unfolding tokens_of pieces
@@ -87,4 +88,5 @@ layout_is_read_back names items distinct pure named =
       last = parts.middle;
       spelled = all_spell lexed.tokens items pure (deepest items) 0 parts.middle (omega arith) parts.first;
       ends = parts.second.0;
-      whole = sym parts.second.1 }
+      whole = sym parts.second.1;
+    }

@@ -1,5 +1,5 @@
 -- The tokens of a tree spell it.
-use Rattle.std.proofs.Common.{◌≡◌, refl, subst, ap, sym, ◌∙◌, ℕ, zero, suc, ◌+◌, ◌<◌, ◌≤◌, max, nat_lt, Bool, true, false, ◌&&◌, List, [], ◌∷◌, ◌++◌, Option, Some, None, inl, inr, arith}
+use Rattle.std.proofs.Common.{◌≡◌, refl, subst, sym, ◌∙◌, ℕ, zero, suc, ◌+◌, ◌≤◌, max, nat_lt, Bool, true, false, ◌&&◌, List, [], ◌∷◌, ◌++◌, None, inl, inr, arith}
 use Rattle.std.proofs.lemmas.Bool.{ltb-false}
 use Rattle.c_tokens.specs.declared.token.Word.{Word}
 use Rattle.c_tokens.specs.declared.token.Token.{Token}
@@ -10,14 +10,14 @@ use Rattle.c_trees.specs.Levels.{level_with, left_of, right_of, Layer}
 use Rattle.c_trees.specs.Pure.{is_pure, is_pure_at}
 use Rattle.c_trees.specs.declared.tree.BinaryOp.{BinaryOp}
 use Rattle.c_trees.specs.declared.tree.BinaryOp.TheVariants as o
-use Rattle.c_trees.specs.declared.tree.Exp.{Exp, out-Exp, roll-Exp, out-roll-Exp, map-Exp}
+use Rattle.c_trees.specs.declared.tree.Exp.{Exp, roll-Exp, out-roll-Exp, map-Exp}
 use Rattle.c_trees.specs.declared.tree.Exp.TheOpen.{Exp-F}
-use Rattle.c_trees.specs.declared.tree.Exp.TheFolds.{fold-Exp, fold-roll-Exp, ind-Exp}
+use Rattle.c_trees.specs.declared.tree.Exp.TheFolds.{fold-roll-Exp, ind-Exp}
 use Rattle.c_grammar.specs.declared.context.Context.{Context}
 use Rattle.c_grammar.specs.declared.context.Context.TheVariants.{InItem}
-use Rattle.c_grammar.specs.Reader.{shape_at}
-use Rattle.c_grammar.specs.Spells.{Stand, sign_of, Joins, Wraps, Node, Spells}
+use Rattle.c_grammar.specs.Spells.{Stand, sign_of, Joins, Node, Spells}
 use Rattle.c_printer.specs.Spelled.{enclosed, spelled, spelled_at, deeper_if, depth_of, depth_at}
+use Rattle.c_printer.proofs.Bools.{and_first, and_second}
 
 -- two lists of tokens one after the other
 pub record Parted (u v : List Shape) (w : List Token) (i j : ℕ) : Type 0 where
@@ -41,14 +41,6 @@ IsSpelled w t = (place d i j : ℕ) → is_pure t ≡ true → depth_of t place 
 positive : (operator : BinaryOp) → 1 ≤ level_with operator
 positive o.Add = omega arith
 positive o.Multiply = omega arith
-
-and_first : (a b : Bool) → (a && b) ≡ true → a ≡ true
-and_first true b h = refl
-and_first false b h = h
-
-and_second : (a b : Bool) → (a && b) ≡ true → b ≡ true
-and_second true b h = h
-and_second false b h = absurd (cc)
 
 module _ (w : List Token) where
   named : (n : Word) → IsSpelled w (roll-Exp (Exp-F.Name n))
@@ -85,7 +77,8 @@ module _ (w : List Token) where
         middle = parts.middle;
         first = pa (left_of operator) d i parts.middle ha (omega arith) parts.first;
         sign = parts.second.0;
-        second = pb (right_of operator) d (parts.middle + 1) j hb (omega arith) parts.second.1 } in
+        second = pb (right_of operator) d (parts.middle + 1) j hb (omega arith) parts.second.1;
+      } in
       inl (subst (λ layer. Node (Unit {0}) (Spells d w) w here place layer i j) (sym (out-roll-Exp (Exp-F.Binary operator a b))) (fits, joins))
 
   enclosing : (operator : BinaryOp) (a b : Exp) → IsSpelled w a → IsSpelled w b → is_pure a ≡ true → is_pure b ≡ true
@@ -101,7 +94,8 @@ module _ (w : List Token) where
         opens = st.0;
         within = bare operator a b pa pb ha hb 1 d (i + 1) parts.middle (positive operator) (omega arith) parts.first;
         closes = parts.second.0;
-        ends = sym parts.second.1 })
+        ends = sym parts.second.1;
+      })
 
   by_level : (operator : BinaryOp) (a b : Exp) → IsSpelled w a → IsSpelled w b → is_pure a ≡ true → is_pure b ≡ true
       → (place d i j : ℕ) (parens : Bool) → nat_lt (level_with operator) place ≡ parens
@@ -126,8 +120,9 @@ module _ (w : List Token) where
   -- The tokens of a pure expression spell it at its place.
   pub spells : (t : Exp) → IsSpelled w t
   spells = ind-Exp (IsSpelled w) (λ x y is. subst (λ z. IsSpelled w (roll-Exp z)) is (elim y as (λ y. IsSpelled w (roll-Exp (map-Exp _ Exp (λ e. e.0) y))) [
-      Exp-F.Name n ↦ named n
+    | Exp-F.Name n ↦ named n
     | Exp-F.Int n ↦ constant n
     | Exp-F.Binary operator a b ↦ binary operator a.0 b.0 a.1 b.1
     | Exp-F.Call a ↦ impure (Exp-F.Call a.0) refl
-    | Exp-F.Hole ↦ impure Exp-F.Hole refl ]))
+    | Exp-F.Hole ↦ impure Exp-F.Hole refl
+  ]))

@@ -1,6 +1,6 @@
 -- Shapes whose texts are whole spellings.
-use Rattle.std.proofs.Common.{◌≡◌, refl, subst, ap, sym, ◌∙◌, ℕ, ◌+◌, ◌-◌, ◌<◌, ◌≤◌, nat_lt, unwrap_or, cond, Bool, true, false, ◌&&◌, ◌||◌, not, nat_eq, bytes_eq, position, List, [], ◌∷◌, ◌++◌, length, get_or, Option, Some, None, is_some, codes, arith}
-use Rattle.std.specs.List.{list_all, IsDistinct, position_or_len}
+use Rattle.std.proofs.Common.{◌≡◌, refl, ap, sym, ℕ, ◌<◌, unwrap_or, cond, Bool, true, false, bytes_eq, position, List, [], ◌∷◌, ◌++◌, length, get_or, Option, Some, None, arith}
+use Rattle.std.specs.List.{IsDistinct, position_or_len}
 use Rattle.std.proofs.lemmas.Bool.{ltb-true, lt-ltb}
 use Rattle.std.proofs.lemmas.Map.Keys.{apart_from_distinct}
 use Rattle.std.proofs.lemmas.List.Sums.{position_or_len_is}
@@ -13,11 +13,12 @@ use Rattle.c_tokens.specs.declared.token.Punct.TheVariants as p
 use Rattle.c_tokens.specs.declared.token.Shape.{Shape}
 use Rattle.c_tokens.specs.declared.token.Shape.TheVariants as s
 use Rattle.c_tokens.specs.Bytes.{is_digit, is_letter, is_word_byte, is_white_space}
-use Rattle.c_tokens.specs.Spelling.{Sort, keyword, punctuator, mark, word, integer, Spelling, space, token, refused, spelling_of, sign_spelling, word_spelling, find_text, keywords, punctuators, sign_marks, unread, is_word, is_marked_word, is_word_after_at, is_number, goes_on_number, starts_with_digit, is_decimal, is_space}
+use Rattle.c_tokens.specs.Spelling.{Sort, keyword, punctuator, word, integer, Spelling, token, spelling_of, sign_spelling, word_spelling, find_text, keywords, punctuators, is_word, is_marked_word, is_word_after_at, is_number, starts_with_digit, is_space}
 use Rattle.c_tokens.specs.Tokens.{shape_of, number_in}
 use Rattle.c_trees.specs.Named.{is_word_spelling, is_integer_spelling, names_word, names_integer}
 use Rattle.c_grammar.specs.Words.{text_of}
 use Rattle.c_printer.specs.Texts.{text_of_key, text_of_punct, text_of_shape}
+use Rattle.c_printer.proofs.Bools.{and_first, and_second}
 
 -- the text of a shape is a spelling, which stands for the shape
 pub record IsWritten (names : List (List ℕ)) (x : Shape) : Type 0 where
@@ -63,8 +64,8 @@ unfolding number_in
 number_is names n distinct within =
     let text = get_or names n [] in
     let first : position_or_len (bytes_eq text) names ≡ n = position_or_len_is (bytes_eq text) names n [] (omega arith)
-          (λ k below. not_equal text (get_or names k []) (apart_from_distinct bytes_eq names k n [] distinct below within))
-          (λ _. (bytes_eq-Decides text text).1 refl) in
+    (λ k below. not_equal text (get_or names k []) (apart_from_distinct bytes_eq names k n [] distinct below within))
+    (λ _. (bytes_eq-Decides text text).1 refl) in
     let found : position (bytes_eq text) names ≡ Some n = rw first (ap (λ b. cond b (Some n) None) (lt-ltb n (length names) within)) in
     ap (λ o. unwrap_or o 0) found
 
@@ -76,26 +77,20 @@ is_integer_token : (o : Option Spelling) → is_integer_spelling o ≡ true → 
 is_integer_token (Some (token integer)) h = refl
 is_integer_token _ h = absurd (cc)
 
-pub first_of_both : (a b : Bool) → (a && b) ≡ true → a ≡ true
-first_of_both true b h = refl
-first_of_both false b h = h
-
-pub second_of_both : (a b : Bool) → (a && b) ≡ true → b ≡ true
-second_of_both true b h = h
-second_of_both false b h = absurd (cc)
-
 pub word_written : (names : List (List ℕ)) (n : Word) → IsDistinct bytes_eq names → names_word names n ≡ true → IsWritten names (s.Word n)
 word_written names n distinct h =
-    let within : n.0 < length names = ltb-true n.0 (length names) (first_of_both _ _ h) in
+    let within : n.0 < length names = ltb-true n.0 (length names) (and_first _ _ h) in
     record {
       sort = word;
-      spelled = is_word_token (spelling_of (text_of names n)) (second_of_both _ _ h);
-      same = ap (λ m. s.Word (record { 0 = m })) (number_is names n.0 distinct within) }
+      spelled = is_word_token (spelling_of (text_of names n)) (and_second _ _ h);
+      same = ap (λ m. s.Word (record { 0 = m })) (number_is names n.0 distinct within);
+    }
 
 pub integer_written : (names : List (List ℕ)) (n : Word) → IsDistinct bytes_eq names → names_integer names n ≡ true → IsWritten names (s.Int n)
 integer_written names n distinct h =
-    let within : n.0 < length names = ltb-true n.0 (length names) (first_of_both _ _ h) in
+    let within : n.0 < length names = ltb-true n.0 (length names) (and_first _ _ h) in
     record {
       sort = integer;
-      spelled = is_integer_token (spelling_of (text_of names n)) (second_of_both _ _ h);
-      same = ap (λ m. s.Int (record { 0 = m })) (number_is names n.0 distinct within) }
+      spelled = is_integer_token (spelling_of (text_of names n)) (and_second _ _ h);
+      same = ap (λ m. s.Int (record { 0 = m })) (number_is names n.0 distinct within);
+    }

@@ -1,5 +1,5 @@
 -- What the tokens of a printed text say.
-use Rattle.std.specs.Prelude.{◌≡◌, ℕ, ◌+◌, true, List, [], ◌∷◌, length, Result, Ok, None, bytes_eq}
+use Rattle.std.specs.Prelude.{◌≡◌, ℕ, ◌+◌, List, [], ◌∷◌, length, Ok, None, bytes_eq}
 use Rattle.std.specs.List.{AllPass, IsDistinct}
 use Rattle.c_tokens.specs.declared.token.Shape.TheVariants.{End}
 use Rattle.c_tokens.specs.declared.token.Token.{Token}

@@ -1,4 +1,4 @@
-use Rattle.std.proofs.Common.{◌≡◌, ◌+◌, ◌++◌, drop, ap, sym, ◌∙◌, subst, arith}
+use Rattle.std.proofs.Common.{◌+◌, ◌++◌, drop, ap, sym, ◌∙◌, subst, arith}
 use Rattle.c_printer.specs.Spelled.{spelled_declaration}
 use Rattle.c_printer.specs.Layout.{line, layout}
 use Rattle.c_printer.specs.ReadBack.{IsReadBack}
@@ -13,7 +13,7 @@ loop-item-preserved c =
     let at = c.loop-item.item-index in
     let written = ap (line names) (c.deref.ensures.value ∙ c.in_ok-shapes.ensures) ∙ ap (λ t. line names (spelled_declaration t)) c.item-item.is in
     ap (λ u. u ++ layout names (drop (at + 1) items)) c.in_ok-write_line.ensures
-        ∙ layout_steps names items at c.item-item.result c.loop-item.text.items _ _ c.loop-item-test.true written c.loop-item.invariant
+    ∙ layout_steps names items at c.item-item.result c.loop-item.text.items _ _ c.loop-item-test.true written c.loop-item.invariant
 
 pub returns : goal.returns
 returns c =
