@@ -26,67 +26,73 @@ pub fn print(alloc: Global, items: &[Declaration], words: &Words) -> Result<Vec<
 #[cfg(test)]
 mod tests {
     use super::*;
-    use c_tokens::Word;
     use c_trees::{BinaryOp, Exp};
     use sqlite_items::Boxed;
     use std::test::Fail;
 
-    fn number(words: &mut Words, text: &[u8]) -> Result<Word, Memory> {
-        if words.len() < 1_000 {
-            words.number(text)
+    // each an expression with its operators before their operands, and what is printed
+    const CASES: [(&str, &str); 6] = [
+        ("+*b2*b2", "int a = b * 2 + b * 2;\n"),
+        ("*++12+123", "int a = (1 + 2 + (1 + 2)) * 3;\n"),
+        ("+1*23", "int a = 1 + 2 * 3;\n"),
+        ("*1+23", "int a = 1 * (2 + 3);\n"),
+        ("**1*23*45", "int a = 1 * (2 * 3) * (4 * 5);\n"),
+        ("a", "int a = a;\n"),
+    ];
+
+    fn leaf(words: &mut Words, byte: u8) -> Result<Exp, Memory> {
+        if words.len() >= 1_000 {
+            return Err(Memory);
+        }
+        let word = words.number(&[byte])?;
+        if byte.is_ascii_digit() {
+            Ok(Exp::Int(word))
         } else {
-            Err(Memory)
+            Ok(Exp::Name(word))
         }
     }
 
-    fn binary(alloc: Global, operator: BinaryOp, first: Exp, second: Exp) -> Result<Exp, Memory> {
-        Ok(Exp::Binary(
-            operator,
-            Boxed::new(alloc, first)?,
-            Boxed::new(alloc, second)?,
-        ))
+    fn node(alloc: Global, operator: BinaryOp, rest: &mut Vec<Exp>) -> Result<Exp, Memory> {
+        let first = rest.pop().ok_or(Memory)?;
+        let second = rest.pop().ok_or(Memory)?;
+        let first = Boxed::new(alloc, first)?;
+        let second = Boxed::new(alloc, second)?;
+        Ok(Exp::Binary(operator, first, second))
     }
 
-    fn sum(alloc: Global, first: Exp, second: Exp) -> Result<Exp, Memory> {
-        binary(alloc, BinaryOp::Add, first, second)
+    fn tree(alloc: Global, words: &mut Words, notation: &[u8]) -> Result<Exp, Memory> {
+        let mut rest = Vec::new(alloc);
+        for byte in notation.iter().rev() {
+            let next = match *byte {
+                b'+' => node(alloc, BinaryOp::Add, &mut rest)?,
+                b'*' => node(alloc, BinaryOp::Multiply, &mut rest)?,
+                byte => leaf(words, byte)?,
+            };
+            rest.push(next)?;
+        }
+        rest.pop().ok_or(Memory)
     }
 
-    fn product(alloc: Global, first: Exp, second: Exp) -> Result<Exp, Memory> {
-        binary(alloc, BinaryOp::Multiply, first, second)
+    fn declared(alloc: Global, notation: &[u8]) -> Result<Vec<u8>, Memory> {
+        let mut words = Words::new(alloc);
+        let name = words.number(b"a")?;
+        let value = tree(alloc, &mut words, notation)?;
+        print(alloc, &[Declaration { name, value }], &words)
     }
 
     #[test]
-    fn lines(rt: HostRuntime) -> Result<(), Fail> {
-        let alloc = rt.alloc();
-        let mut words = Words::new(alloc);
-        let a = number(&mut words, b"a")?;
-        let b = number(&mut words, b"b")?;
-        let c = number(&mut words, b"c")?;
-        let one = number(&mut words, b"1")?;
-        let two = number(&mut words, b"2")?;
-        let three = number(&mut words, b"3")?;
-        let twice = product(alloc, Exp::Name(b), Exp::Int(two))?;
-        let again = product(alloc, Exp::Name(b), Exp::Int(two))?;
-        let few = sum(alloc, Exp::Int(one), Exp::Int(two))?;
-        let more = sum(alloc, Exp::Int(one), Exp::Int(two))?;
-        let all = sum(alloc, few, more)?;
-        let items = [
-            Declaration {
-                name: a,
-                value: sum(alloc, twice, again)?,
-            },
-            Declaration {
-                name: c,
-                value: product(alloc, all, Exp::Int(three))?,
-            },
-        ];
-        let text = print(alloc, &items, &words)?;
-        assert_eq!(rt;
-            text.as_slice(),
-            b"int a = b * 2 + b * 2;\nint c = (1 + 2 + (1 + 2)) * 3;\n".as_slice()
-        );
-        let nothing = print(alloc, &[], &words)?;
-        assert_eq!(rt; nothing.len(), 0);
+    fn declarations(rt: HostRuntime) -> Result<(), Fail> {
+        for (notation, want) in CASES {
+            let text = declared(rt.alloc(), notation.as_bytes())?;
+            assert_eq!(rt; text.as_slice(), want.as_bytes());
+        }
+        Ok(())
+    }
+
+    #[test]
+    fn no_declaration(rt: HostRuntime) -> Result<(), Fail> {
+        let text = print(rt.alloc(), &[], &Words::new(rt.alloc()))?;
+        assert_eq!(rt; text.len(), 0);
         Ok(())
     }
 }
