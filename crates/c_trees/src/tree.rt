@@ -56,9 +56,9 @@ impl Exp {
             Exp::Name(word) => Ok(Exp::Name(*word)),
             Exp::Int(word) => Ok(Exp::Int(*word)),
             Exp::Binary(operator, left, right) => {
-                let left = left.get().copy(alloc)?;
-                let right = right.get().copy(alloc)?;
-                Exp::binary(alloc, *operator, left, right)
+                let first = left.get().copy(alloc)?;
+                let second = right.get().copy(alloc)?;
+                Exp::binary(alloc, *operator, first, second)
             }
             Exp::Call(argument) => {
                 let argument = argument.get().copy(alloc)?;
@@ -69,12 +69,7 @@ impl Exp {
     }
 
     /// Two operands with an operator between.
-    pub fn binary(
-        alloc: Global,
-        operator: BinaryOp,
-        left: Exp,
-        right: Exp,
-    ) -> Result<Exp, Memory>
+    pub fn binary(alloc: Global, operator: BinaryOp, left: Exp, right: Exp) -> Result<Exp, Memory>
         ensures { IfOk result (λ made. made ≡ Exp.Binary operator left right) }
     {
         let left = Boxed::new(alloc, left)?;
