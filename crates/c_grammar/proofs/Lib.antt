@@ -7,3 +7,4 @@ pub mod Deeper
 pub mod Advance
 pub mod Live
 pub mod Chain
+pub mod Complete
