@@ -8,3 +8,5 @@ pub mod Advance
 pub mod Live
 pub mod Chain
 pub mod Complete
+pub mod Items
+pub mod Derives
