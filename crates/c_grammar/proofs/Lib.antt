@@ -7,3 +7,8 @@ pub mod Deeper
 pub mod Advance
 pub mod Live
 pub mod Chain
+pub mod Complete
+pub mod Items
+pub mod Derives
+pub mod Raise
+pub mod Sound
