@@ -12,3 +12,5 @@ pub mod Items
 pub mod Derives
 pub mod Raise
 pub mod Sound
+pub mod Unique
+pub mod SoundItems
