@@ -15,3 +15,4 @@ pub mod Sound
 pub mod Unique
 pub mod SoundItems
 pub mod Growth
+pub mod Worked
