@@ -12,3 +12,7 @@ pub mod Items
 pub mod Derives
 pub mod Raise
 pub mod Sound
+pub mod Unique
+pub mod SoundItems
+pub mod Growth
+pub mod Worked
