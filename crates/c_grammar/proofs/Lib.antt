@@ -1,4 +1,5 @@
 pub mod Sets
+pub mod Words
 pub mod Loops
 pub mod Bounds
 pub mod Repeats
@@ -7,3 +8,4 @@ pub mod Deeper
 pub mod Advance
 pub mod Live
 pub mod Chain
+pub mod Alive

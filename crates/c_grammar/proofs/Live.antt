@@ -151,6 +151,13 @@ then_way K P Q r f w i p W C = record {
       ends_bind r f v i s.0 j E (W.finishes E.value v s.0 j s.1.1 quiet);
 }
 
+pub raised : {A : Type 0} (h : ℕ) (r : Reader A) (v : List Token) (i j : ℕ) → Ends r v (i + 1) j → Ends (Fits h r) v i j
+raised h r v i j E = let D : ℕ = max E.levels (h + 1) in let low : h < D = omega arith in record {
+  levels = D;
+  value = E.value;
+  reads = rw (lt-ltb h D low) (at_levels r v (i + 1) j E D (omega arith));
+}
+
 settled : {A : Type 0} (k : ℕ) (v : List Token) (o q : Outcome A) (a : A) (m : ℕ) (w : List Token) → o ≡ Ok (a, from w m) → m ≤ k → Same k v o q → q ≡ Ok (a, from v m)
 settled k v o q a m w e le h = (rw e at h) le
 
@@ -265,13 +272,6 @@ module _ (K : Shape → Type 0) (tame : (n : Rule) → Good n → Tame (body n))
           let E : Ends r v (i + 1) j = P.finishes v (i + 1) j (subst (λ k. Stand P.tokens v k j) at h) q in record { levels = E.levels; value = E.value; reads = E.reads };
     }
   ]
-
-  raised : {A : Type 0} (h : ℕ) (r : Reader A) (v : List Token) (i j : ℕ) → Ends r v (i + 1) j → Ends (Fits h r) v i j
-  raised h r v i j E = let D : ℕ = max E.levels (h + 1) in let low : h < D = omega arith in record {
-    levels = D;
-    value = E.value;
-    reads = rw (lt-ltb h D low) (at_levels r v (i + 1) j E D (omega arith));
-  }
 
   ends_fits : {A : Type 0} (Q : Tokens) (h : ℕ) (r : Reader A) (w : List Token) (i p : ℕ) → i ≤ p → Phrase K Q r → (i + 1 ≤ p → Continues K Q r w (i + 1) p) → Continues K Q (Fits h r) w i p
   ends_fits Q h r w i p le P C = let N : Continues K Q (Next r) w i p = ends_next Q r w i p le P C in record {
