@@ -438,3 +438,95 @@ module _ (names : List (List ℕ)) (zero : Word) (has_zero : zero.0 < length nam
   pub live_body : (n : Rule) → Good n → Usable K n → Live K (needs n) (following n) (body n)
   live_body (Expression c least) good has = (alive_expression c least good has).lives
   live_body (MetaBlock x) good has = live_meta_block x (following (MetaBlock x)) has
+
+  abbrev blocking : List Shape
+  blocking = s.Punct punct.LeftBrace ∷ s.Key key.Return ∷ quoting ++ ending
+
+  fin_block : (x : Word) (Q : Tokens) → Finishes Q (block x) blocking
+  unfolding block
+  fin_block x Q = fin_look Q (block_by x) (s.Punct punct.LeftBrace) (s.Key key.Return ∷ quoting ++ ending)
+      (fin_fits Q 0 (Call (MetaBlock x)) (s.Punct punct.LeftBrace) (s.Key key.Return ∷ quoting ++ ending) (fin_called (MetaBlock x) Q (s.Key key.Return ∷ quoting ++ ending) (fin_meta_block x Q)))
+
+  live_block_by : (x : Word) (Q : Tokens) → K (s.Word x) → (y : Shape) → Live K 0 Q (block_by x y)
+  live_block_by x Q k (s.Punct punct.LeftBrace) = (
+    record {
+      tokens = s.Key key.Return ∷ quoting ++ ending;
+      usable = (tt, (tt, (has_zero, (tt, (tt, (tt, tt))))));
+      finishes = fin_called (MetaBlock x) Q (s.Key key.Return ∷ quoting ++ ending) (fin_meta_block x Q);
+    },
+    (tt, k, omega arith, λ y q. refl),
+  )
+  live_block_by x Q k _ = tt
+
+  live_block : (x : Word) (Q : Tokens) → K (s.Word x) → Live K 0 Q (block x)
+  unfolding block
+  live_block x Q k = live_block_by x Q k
+
+  -- ---- the items
+
+  -- `kind` names the kind of expressions
+  module _ (kind : Word) (has_kind : kind.0 < length names) (names_kind : is_exp names kind ≡ true) where
+    abbrev binding : List Shape
+    binding = s.Mark mark.Bind ∷ s.Word kind ∷ s.Punct punct.Colon ∷ s.Punct punct.Colon ∷ s.Word kind ∷ []
+
+    alive_bound : Alive K 0 anything (bound names) binding
+    unfolding bound
+    alive_bound = alive_token K 0 anything is_bind _ (s.Mark mark.Bind) (s.Word kind ∷ s.Punct punct.Colon ∷ s.Punct punct.Colon ∷ s.Word kind ∷ []) refl tt
+        (alive_token K 0 anything (is_kind names) _ (s.Word kind) (s.Punct punct.Colon ∷ s.Punct punct.Colon ∷ s.Word kind ∷ []) names_kind has_kind
+          (alive_token K 0 anything is_colon _ (s.Punct punct.Colon) (s.Punct punct.Colon ∷ s.Word kind ∷ []) refl tt
+            (alive_token K 0 anything is_colon (Pick word_of) (s.Punct punct.Colon) (s.Word kind ∷ []) refl tt (alive_pick K 0 anything word_of (s.Word kind) kind refl has_kind))))
+
+    abbrev patterning : List Shape
+    patterning = s.Mark mark.PatternOpen ∷ s.Punct punct.LeftParen ∷ binding ++ s.Punct punct.RightParen ∷ s.Mark mark.PatternClose ∷ []
+
+    alive_pattern : Alive K 0 anything (pattern names) patterning
+    unfolding pattern
+    alive_pattern = alive_token K 0 anything is_pattern_open _ (s.Mark mark.PatternOpen) (s.Punct punct.LeftParen ∷ binding ++ s.Punct punct.RightParen ∷ s.Mark mark.PatternClose ∷ []) refl tt
+        (alive_token K 0 anything is_opening _ (s.Punct punct.LeftParen) (binding ++ s.Punct punct.RightParen ∷ s.Mark mark.PatternClose ∷ []) refl tt
+          (alive_bind K 0 anything anything (bound names) _ binding (s.Punct punct.RightParen ∷ s.Mark mark.PatternClose ∷ []) alive_bound refl (tt, (tt, tt))
+            (λ name. alive_token K 0 anything is_closing (token is_pattern_close >> Give name) (s.Punct punct.RightParen) (s.Mark mark.PatternClose ∷ []) refl tt
+              (alive_token K 0 anything is_pattern_close (Give name) (s.Mark mark.PatternClose) [] refl tt (alive_give K 0 anything name)))))
+
+    alive_definition : Alive K 0 anything (definition names) (s.Mark mark.Exp ∷ s.Word kind ∷ patterning ++ blocking)
+    unfolding definition
+    alive_definition = alive_token K 0 anything is_result _ (s.Mark mark.Exp) (s.Word kind ∷ patterning ++ blocking) refl tt
+        (alive_bind K 0 anything anything (Pick word_of) _ (s.Word kind ∷ []) (patterning ++ blocking) (alive_pick K 0 anything word_of (s.Word kind) kind refl has_kind) refl
+          (tt, (tt, (tt, (has_kind, (tt, (tt, (has_kind, (tt, (tt, (tt, (tt, (tt, (has_zero, (tt, (tt, (tt, tt))))))))))))))))
+          (λ name. alive_known K 0 anything anything (pattern names) _ patterning blocking alive_pattern refl (tt, (tt, (tt, (has_zero, (tt, (tt, (tt, tt)))))))
+            (λ x. fin_give anything (block x) (λ template. item.Definition (record { name = name; binder = x; template = template })) blocking (fin_block x anything))
+            (λ x Y. live_give K 0 anything anything (block x) (λ template. item.Definition (record { name = name; binder = x; template = template })) (λ y q. q) (live_block x anything (pattern_known K names x Y)))))
+
+    -- `y` may be declared
+    module _ (m : Option Word) (y : Word) (has_y : y.0 < length names) (free : is_identifier (InItem m) y ≡ true) where
+      abbrev declaring : List Shape
+      declaring = s.Word y ∷ s.Punct punct.Equal ∷ s.Int zero ∷ s.Punct punct.Semicolon ∷ []
+
+      alive_declaration : Alive K 0 anything (declaration m) declaring
+      unfolding declaration
+      alive_declaration = alive_bind K 0 anything anything (Pick (identifier_of (InItem m))) _ (s.Word y ∷ []) (s.Punct punct.Equal ∷ s.Int zero ∷ s.Punct punct.Semicolon ∷ [])
+          (alive_pick K 0 anything (identifier_of (InItem m)) (s.Word y) y (ap (λ b. chosen b y) free) has_y) refl (tt, (has_zero, (tt, tt)))
+          (λ name. alive_token K 0 anything is_equal _ (s.Punct punct.Equal) (s.Int zero ∷ s.Punct punct.Semicolon ∷ []) refl tt
+            (alive_bind K 0 quiet anything (expression (InItem m) 2) _ constant (s.Punct punct.Semicolon ∷ []) (alive_expression (InItem m) 2 (omega arith) tt) refl (tt, tt)
+              (λ value. alive_token K 0 anything is_semicolon (Give (item.Declaration (record { name = name; value = value.0 }))) (s.Punct punct.Semicolon) [] refl tt
+                (alive_give K 0 anything (item.Declaration (record { name = name; value = value.0 }))))))
+
+      live_defined : (o : Option Word) → Live K 0 anything (defined names o)
+      live_defined (Some n) = tt
+      live_defined None = (phrase K 0 anything (definition names) (s.Mark mark.Exp ∷ s.Word kind ∷ patterning ++ blocking) alive_definition, alive_definition.lives)
+
+      live_item_by : (x : Shape) → Live K 0 anything (item_by names m x)
+      live_item_by (s.Key key.Int) = (phrase K 0 anything (declaration m) declaring alive_declaration, alive_declaration.lives)
+      live_item_by (s.Mark mark.Syntax) = live_defined m
+      live_item_by _ = tt
+
+      -- the shortest item
+      abbrev pub shortest : List Shape
+      shortest = s.Key key.Int ∷ declaring
+
+      pub alive_item : Alive K 0 anything (an_item names m) shortest
+      unfolding an_item
+      alive_item = record {
+        usable = (tt, (has_y, (tt, (has_zero, (tt, tt)))));
+        finishes = fin_look anything (item_by names m) (s.Key key.Int) declaring (fin_next anything (declaration m) (s.Key key.Int) declaring alive_declaration.finishes);
+        lives = live_item_by;
+      }
