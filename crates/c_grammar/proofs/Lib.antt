@@ -7,5 +7,11 @@ pub mod Local
 pub mod Deeper
 pub mod Advance
 pub mod Live
-pub mod Chain
 pub mod Alive
+pub mod Dead
+pub mod Completed
+pub mod Answered
+pub mod Chain
+pub mod Complete
+pub mod Items
+pub mod Derives
