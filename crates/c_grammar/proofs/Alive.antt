@@ -1,5 +1,5 @@
 -- Each rule is live.
-use Rattle.std.proofs.Common.{◌≡◌, inl, inr, refl, subst, ap, sym, ◌∙◌, ℕ, zero, suc, ◌+◌, ◌-◌, ◌<◌, ◌≤◌, ◌==◌, max, nat_lt, Bool, true, false, List, [], ◌∷◌, ◌++◌, length, Option, Some, None, Result, Ok, Err, arith}
+use Rattle.std.proofs.Common.{◌≡◌, refl, subst, ap, sym, ◌∙◌, ℕ, suc, ◌+◌, ◌<◌, max, nat_lt, Bool, true, false, List, [], ◌∷◌, ◌++◌, length, Option, Some, None, Ok, arith}
 use Rattle.std.proofs.lemmas.Bool.{lt-ltb}
 use Rattle.std.proofs.lemmas.Bool.Decides.{Decides-eqb}
 use Rattle.std.proofs.lemmas.List.{append-nil}
@@ -13,21 +13,20 @@ use Rattle.c_tokens.specs.declared.token.Punct.TheVariants as punct
 use Rattle.c_tokens.specs.declared.token.Mark.TheVariants as mark
 use Rattle.c_trees.specs.declared.tree.Exp.{Exp}
 use Rattle.c_trees.specs.declared.tree.Exp.TheVariants as e
-use Rattle.c_trees.specs.declared.tree.Item.{Item}
 use Rattle.c_trees.specs.declared.tree.Item.TheVariants as item
 use Rattle.c_grammar.specs.declared.context.Context.{Context}
 use Rattle.c_grammar.specs.declared.context.Context.TheVariants.{InItem, InArgument, InTemplate}
 use Rattle.c_grammar.specs.Words.{is_identifier, callee, binder, is_exp}
-use Rattle.c_grammar.specs.Reader.{Input, Reader, Outcome, Turn, More, Last, Rule, Expression, MetaBlock, Read, Found, Give, Refuse, Look, Next, Pick, Bind, Fits, Call, Loop, run, pick, only, choose, token, when, and_then, kind, next, shape_at, ◌>>=◌, ◌>>◌}
-use Rattle.c_grammar.specs.Grammar.{read, below, body, binds, joined, is_opening, is_closing, is_equal, is_semicolon, is_colon, is_right_brace, is_return, is_result, is_pattern_open, is_pattern_close, is_bind, word_of, identifier_of, is_kind, is_named, parenthesized, called, placed, reserved, worded, placeholder, primary_by, primary, longer, turn, climb, expression, quoted, quote_by, quote, meta_block, block_by, block, bound, pattern, definition, declaration, defined, item_by, an_item, chosen}
-use Rattle.c_grammar.specs.Spells.{Stand}
+use Rattle.c_grammar.specs.Reader.{Input, Reader, Outcome, More, Last, Rule, Expression, MetaBlock, Found, Give, Look, Next, Pick, Bind, Fits, Call, pick, choose, token, next, shape_at, ◌>>=◌, ◌>>◌}
+use Rattle.c_grammar.specs.Grammar.{read, below, body, binds, joined, is_opening, is_closing, is_equal, is_semicolon, is_colon, is_right_brace, is_return, is_result, is_pattern_open, is_pattern_close, is_bind, word_of, identifier_of, is_kind, is_named, parenthesized, called, placed, reserved, placeholder, primary_by, primary, longer, climb, expression, quoted, quote_by, quote, meta_block, block_by, block, bound, pattern, definition, declaration, defined, item_by, an_item, chosen}
 use Rattle.c_grammar.specs.Laws.{IsKnown}
 use Rattle.c_grammar.proofs.Sets.{Tokens, anything}
-use Rattle.c_grammar.proofs.Loops.{split, same_answer, same_place}
+use Rattle.c_grammar.proofs.Loops.{split, same_answer}
 use Rattle.c_grammar.proofs.Chain.{no_turn, bounded}
+use Rattle.c_grammar.proofs.Derives as derives
 use Rattle.c_grammar.proofs.Local.{from, Onward, onward}
-use Rattle.c_grammar.proofs.Bounds.{Good, Bounded, Tame}
-use Rattle.c_grammar.proofs.Live.{Opens, Each, HasUsable, Usable, following, needs, Ends, Finishes, Phrase, Way, Yields, Live, ends_bind, fin_bind, each_append, raised}
+use Rattle.c_grammar.proofs.Bounds.{Good, Tame}
+use Rattle.c_grammar.proofs.Live.{Opens, Each, HasUsable, Usable, following, needs, Ends, Finishes, Phrase, Yields, Live, ends_bind, fin_bind, each_append, raised}
 
 -- ---- each rule is tame
 
@@ -185,13 +184,10 @@ pub record Parts (K : Shape → Type 0) {A B : Type 0} (r : Reader B) (f : B →
   pub first : Yields K r value
   pub second : Yields K (f value) a
 
-placed_at : {A : Type 0} (w : List Token) (i : ℕ) (o : Outcome A) (a : A) (p : Input) → o ≡ Ok (a, p) → Onward w i o → p ≡ from w p.at
-placed_at w i o a p e h = (rw e at h).0
-
 parts : (K : Shape → Type 0) {A B : Type 0} (r : Reader B) (f : B → Reader A) (a : A) → Yields K (Bind r f) a → Parts K r f a
 parts K r f a Y =
     let s = split (read Y.levels r (from Y.tokens Y.start)) (λ b k. read Y.levels (f b) k) a (from Y.tokens Y.place) Y.reads in
-    let at : s.place ≡ from Y.tokens s.place.at = placed_at Y.tokens Y.start (read Y.levels r (from Y.tokens Y.start)) s.value s.place s.first (onward Y.levels Y.tokens r Y.start) in
+    let at : s.place ≡ from Y.tokens s.place.at = derives.placed Y.tokens Y.start (read Y.levels r (from Y.tokens Y.start)) s.value s.place s.first (onward Y.levels Y.tokens r Y.start) in
     record {
       value = s.value;
       first = record { tokens = Y.tokens; usable = Y.usable; levels = Y.levels; start = Y.start; place = s.place.at; reads = s.first ∙ ap (λ k. Ok (s.value, k)) at };
@@ -313,7 +309,7 @@ module _ (names : List (List ℕ)) (zero : Word) (has_zero : zero.0 < length nam
   unfolding called
   alive_argument m Q = alive_token K 1 Q is_opening _ (s.Punct punct.LeftParen) (s.Int zero ∷ s.Punct punct.RightParen ∷ []) refl tt
       (alive_bind K 1 quiet Q (Call (Expression (InArgument m) 2)) _ constant (s.Punct punct.RightParen ∷ []) (alive_operand (InArgument m) 2 quiet (omega arith) tt (λ x q. q)) refl (tt, tt)
-        (λ argument. alive_closed 1 Q (e.Call argument.0, argument.1 + 1)))
+      (λ argument. alive_closed 1 Q (e.Call argument.0, argument.1 + 1)))
 
   alive_placed : (x : Word) (Q : Tokens) → K (s.Word x) → Alive K 1 Q (placed x) (s.Word x ∷ [])
   unfolding placed
@@ -473,8 +469,8 @@ module _ (names : List (List ℕ)) (zero : Word) (has_zero : zero.0 < length nam
     unfolding bound
     alive_bound = alive_token K 0 anything is_bind _ (s.Mark mark.Bind) (s.Word kind ∷ s.Punct punct.Colon ∷ s.Punct punct.Colon ∷ s.Word kind ∷ []) refl tt
         (alive_token K 0 anything (is_kind names) _ (s.Word kind) (s.Punct punct.Colon ∷ s.Punct punct.Colon ∷ s.Word kind ∷ []) names_kind has_kind
-          (alive_token K 0 anything is_colon _ (s.Punct punct.Colon) (s.Punct punct.Colon ∷ s.Word kind ∷ []) refl tt
-            (alive_token K 0 anything is_colon (Pick word_of) (s.Punct punct.Colon) (s.Word kind ∷ []) refl tt (alive_pick K 0 anything word_of (s.Word kind) kind refl has_kind))))
+        (alive_token K 0 anything is_colon _ (s.Punct punct.Colon) (s.Punct punct.Colon ∷ s.Word kind ∷ []) refl tt
+        (alive_token K 0 anything is_colon (Pick word_of) (s.Punct punct.Colon) (s.Word kind ∷ []) refl tt (alive_pick K 0 anything word_of (s.Word kind) kind refl has_kind))))
 
     abbrev patterning : List Shape
     patterning = s.Mark mark.PatternOpen ∷ s.Punct punct.LeftParen ∷ binding ++ s.Punct punct.RightParen ∷ s.Mark mark.PatternClose ∷ []
@@ -483,18 +479,18 @@ module _ (names : List (List ℕ)) (zero : Word) (has_zero : zero.0 < length nam
     unfolding pattern
     alive_pattern = alive_token K 0 anything is_pattern_open _ (s.Mark mark.PatternOpen) (s.Punct punct.LeftParen ∷ binding ++ s.Punct punct.RightParen ∷ s.Mark mark.PatternClose ∷ []) refl tt
         (alive_token K 0 anything is_opening _ (s.Punct punct.LeftParen) (binding ++ s.Punct punct.RightParen ∷ s.Mark mark.PatternClose ∷ []) refl tt
-          (alive_bind K 0 anything anything (bound names) _ binding (s.Punct punct.RightParen ∷ s.Mark mark.PatternClose ∷ []) alive_bound refl (tt, (tt, tt))
-            (λ name. alive_token K 0 anything is_closing (token is_pattern_close >> Give name) (s.Punct punct.RightParen) (s.Mark mark.PatternClose ∷ []) refl tt
-              (alive_token K 0 anything is_pattern_close (Give name) (s.Mark mark.PatternClose) [] refl tt (alive_give K 0 anything name)))))
+        (alive_bind K 0 anything anything (bound names) _ binding (s.Punct punct.RightParen ∷ s.Mark mark.PatternClose ∷ []) alive_bound refl (tt, (tt, tt))
+        (λ name. alive_token K 0 anything is_closing (token is_pattern_close >> Give name) (s.Punct punct.RightParen) (s.Mark mark.PatternClose ∷ []) refl tt
+        (alive_token K 0 anything is_pattern_close (Give name) (s.Mark mark.PatternClose) [] refl tt (alive_give K 0 anything name)))))
 
     alive_definition : Alive K 0 anything (definition names) (s.Mark mark.Exp ∷ s.Word kind ∷ patterning ++ blocking)
     unfolding definition
     alive_definition = alive_token K 0 anything is_result _ (s.Mark mark.Exp) (s.Word kind ∷ patterning ++ blocking) refl tt
         (alive_bind K 0 anything anything (Pick word_of) _ (s.Word kind ∷ []) (patterning ++ blocking) (alive_pick K 0 anything word_of (s.Word kind) kind refl has_kind) refl
-          (tt, (tt, (tt, (has_kind, (tt, (tt, (has_kind, (tt, (tt, (tt, (tt, (tt, (has_zero, (tt, (tt, (tt, tt))))))))))))))))
-          (λ name. alive_known K 0 anything anything (pattern names) _ patterning blocking alive_pattern refl (tt, (tt, (tt, (has_zero, (tt, (tt, (tt, tt)))))))
-            (λ x. fin_give anything (block x) (λ template. item.Definition (record { name = name; binder = x; template = template })) blocking (fin_block x anything))
-            (λ x Y. live_give K 0 anything anything (block x) (λ template. item.Definition (record { name = name; binder = x; template = template })) (λ y q. q) (live_block x anything (pattern_known K names x Y)))))
+        (tt, (tt, (tt, (has_kind, (tt, (tt, (has_kind, (tt, (tt, (tt, (tt, (tt, (has_zero, (tt, (tt, (tt, tt))))))))))))))))
+        (λ name. alive_known K 0 anything anything (pattern names) _ patterning blocking alive_pattern refl (tt, (tt, (tt, (has_zero, (tt, (tt, (tt, tt)))))))
+        (λ x. fin_give anything (block x) (λ template. item.Definition (record { name = name; binder = x; template = template })) blocking (fin_block x anything))
+        (λ x Y. live_give K 0 anything anything (block x) (λ template. item.Definition (record { name = name; binder = x; template = template })) (λ y q. q) (live_block x anything (pattern_known K names x Y)))))
 
     -- `y` may be declared
     module _ (m : Option Word) (y : Word) (has_y : y.0 < length names) (free : is_identifier (InItem m) y ≡ true) where
@@ -506,9 +502,9 @@ module _ (names : List (List ℕ)) (zero : Word) (has_zero : zero.0 < length nam
       alive_declaration = alive_bind K 0 anything anything (Pick (identifier_of (InItem m))) _ (s.Word y ∷ []) (s.Punct punct.Equal ∷ s.Int zero ∷ s.Punct punct.Semicolon ∷ [])
           (alive_pick K 0 anything (identifier_of (InItem m)) (s.Word y) y (ap (λ b. chosen b y) free) has_y) refl (tt, (has_zero, (tt, tt)))
           (λ name. alive_token K 0 anything is_equal _ (s.Punct punct.Equal) (s.Int zero ∷ s.Punct punct.Semicolon ∷ []) refl tt
-            (alive_bind K 0 quiet anything (expression (InItem m) 2) _ constant (s.Punct punct.Semicolon ∷ []) (alive_expression (InItem m) 2 (omega arith) tt) refl (tt, tt)
-              (λ value. alive_token K 0 anything is_semicolon (Give (item.Declaration (record { name = name; value = value.0 }))) (s.Punct punct.Semicolon) [] refl tt
-                (alive_give K 0 anything (item.Declaration (record { name = name; value = value.0 }))))))
+          (alive_bind K 0 quiet anything (expression (InItem m) 2) _ constant (s.Punct punct.Semicolon ∷ []) (alive_expression (InItem m) 2 (omega arith) tt) refl (tt, tt)
+          (λ value. alive_token K 0 anything is_semicolon (Give (item.Declaration (record { name = name; value = value.0 }))) (s.Punct punct.Semicolon) [] refl tt
+          (alive_give K 0 anything (item.Declaration (record { name = name; value = value.0 }))))))
 
       live_defined : (o : Option Word) → Live K 0 anything (defined names o)
       live_defined (Some n) = tt

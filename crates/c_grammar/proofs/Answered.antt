@@ -1,16 +1,15 @@
 -- What the answers of a parser say of the tokens.
-use Rattle.std.proofs.Common.{◌≡◌, inl, inr, refl, subst, ap, sym, ◌∙◌, ℕ, ◌<◌, ◌≤◌, List, [], Option, Result, Ok, Err, arith}
+use Rattle.std.proofs.Common.{◌≡◌, inl, inr, ℕ, ◌<◌, ◌≤◌, List, Option, Ok, Err, arith}
 use Rattle.std.proofs.lemmas.Bool.{cases_lt}
 use Rattle.c_tokens.specs.declared.token.Word.{Word}
 use Rattle.c_tokens.specs.declared.token.Token.{Token}
 use Rattle.c_trees.specs.declared.tree.Item.{Item}
-use Rattle.c_grammar.specs.declared.refusal.Refusal.TheVariants.{Memory, Syntax, TooDeep}
+use Rattle.c_grammar.specs.declared.refusal.Refusal.TheVariants.{Syntax, TooDeep}
 use Rattle.c_grammar.specs.Words.{AreDistinct}
 use Rattle.c_grammar.specs.Reader.{Outcome}
 use Rattle.c_grammar.specs.Grammar.{read, an_item}
 use Rattle.c_grammar.specs.Spells.{SpellsItem}
-use Rattle.c_grammar.specs.Laws.{AreKnown, IsFirstDead, IsTooDeep, AnyDepth}
-use Rattle.c_grammar.specs.Laws as laws
+use Rattle.c_grammar.specs.Laws.{AreKnown, IsFirstDead, IsTooDeep}
 use Rattle.c_grammar.proofs.Local.{from, Onward, onward}
 use Rattle.c_grammar.proofs.Live.{Before}
 use Rattle.c_grammar.proofs.Dead.{dead, too_deep}

@@ -1,18 +1,17 @@
 -- Each prefix of an item that is taken can be completed to one.
-use Rattle.std.proofs.Common.{◌≡◌, inl, inr, refl, subst, ap, sym, ◌∙◌, ℕ, zero, suc, ◌+◌, ◌-◌, ◌<◌, ◌≤◌, max, Bool, true, false, List, [], ◌∷◌, ◌++◌, length, Option, Some, None, Result, Ok, Err, arith}
+use Rattle.std.proofs.Common.{◌≡◌, inl, inr, refl, subst, ap, sym, ◌∙◌, ℕ, zero, suc, ◌+◌, ◌-◌, ◌<◌, ◌≤◌, List, [], ◌∷◌, ◌++◌, Option, Ok, arith}
 use Rattle.std.proofs.lemmas.Bool.{cases_lt}
 use Rattle.c_tokens.specs.declared.token.Word.{Word}
 use Rattle.c_tokens.specs.declared.token.Shape.{Shape}
-use Rattle.c_tokens.specs.declared.token.Shape.TheVariants as s
 use Rattle.c_tokens.specs.declared.token.Token.{Token}
 use Rattle.c_trees.specs.declared.tree.Item.{Item}
 use Rattle.c_grammar.specs.Words.{AreDistinct}
-use Rattle.c_grammar.specs.Reader.{Input, Reader, Outcome, token_at, shape_at}
+use Rattle.c_grammar.specs.Reader.{token_at, shape_at}
 use Rattle.c_grammar.specs.Grammar.{read, an_item}
 use Rattle.c_grammar.specs.Spells.{Stand, SpellsItem}
 use Rattle.c_grammar.specs.Laws.{Agree, IsKnown, AreKnown, Reading, Source, AnyDepth}
 use Rattle.c_grammar.specs.Laws as laws
-use Rattle.c_grammar.proofs.Sets.{Tokens, anything}
+use Rattle.c_grammar.proofs.Sets.{anything}
 use Rattle.c_grammar.proofs.Words.{Enough, enough, known_more}
 use Rattle.c_grammar.proofs.Local.{from}
 use Rattle.c_grammar.proofs.Live.{Each, Ends, Before, Continues, live}
@@ -74,7 +73,7 @@ module _ (sound : (d : ℕ) (w : List Token) (names : List (List ℕ)) (m : Opti
   all_known n u h k = elim (cases_lt k n) [
     | inl less ↦ subst (IsKnown all) (agrees k n less u k (omega arith)) (still_known k)
     | inr le ↦ (let e : n + (k - n) ≡ k = omega arith in
-      subst (IsKnown all) (sym (past_front w (loosely u) n 0 (k - n)) ∙ ap (shape_at (with_front n u)) e) (each_known all u h (k - n)))
+        subst (IsKnown all) (sym (past_front w (loosely u) n 0 (k - n)) ∙ ap (shape_at (with_front n u)) e) (each_known all u h (k - n)))
   ]
 
   abbrev source : (p n : ℕ) → p < n → (u : List Shape) → Each (IsKnown all) u → Source names w p
@@ -99,7 +98,7 @@ module _ (sound : (d : ℕ) (w : List Token) (names : List (List ℕ)) (m : Opti
   pub completed : (d p i : ℕ) → i ≤ p → Before p (read d (an_item names m) (from w i)) → laws.Live AnyDepth names m w i p
   completed d p i le b =
       let C : Continues (IsKnown all) anything (an_item all m) w i p = live (IsKnown all) tame_body (live_body all words.constant words.constant_known) d w p anything (an_item all m) still_known (tame_item all m) whole.lives i le
-        (subst (Before p) (more_texts d names words.more w known m i) b) in
+      (subst (Before p) (more_texts d names words.more w known m i) b) in
       let less : p < p + 1 = omega arith in
       let h = stand_from C.tokens (with_front (p + 1) C.tokens) (p + 1) (past_front w (loosely C.tokens) (p + 1) 0) in
       spelled p (p + 1) less C.tokens C.usable i h.0 (C.finishes (with_front (p + 1) C.tokens) h.0 (agrees p (p + 1) less C.tokens) h.1 refl)

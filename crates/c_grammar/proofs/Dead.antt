@@ -1,5 +1,5 @@
 -- Where an item is refused, no source has one.
-use Rattle.std.proofs.Common.{◌≡◌, inl, inr, refl, subst, ap, sym, ◌∙◌, ℕ, zero, suc, ◌+◌, ◌<◌, ◌≤◌, max, Bool, true, false, List, [], ◌∷◌, ◌++◌, length, Option, Some, None, Result, Ok, Err, arith}
+use Rattle.std.proofs.Common.{◌≡◌, refl, ap, sym, ◌∙◌, ℕ, ◌+◌, max, List, ◌++◌, Option, Some, None, Ok, Err, arith}
 use Rattle.std.specs.Prelude.{codes}
 use Rattle.std.specs.Str.{bytes_eq}
 use Rattle.c_tokens.specs.declared.token.Word.{Word}
@@ -7,17 +7,13 @@ use Rattle.c_tokens.specs.declared.token.Shape.{Shape}
 use Rattle.c_tokens.specs.declared.token.Shape.TheVariants as s
 use Rattle.c_tokens.specs.declared.token.Token.{Token}
 use Rattle.c_tokens.specs.declared.token.Mark.TheVariants as mark
-use Rattle.c_trees.specs.declared.tree.Item.{Item}
-use Rattle.c_trees.specs.declared.tree.Item.TheVariants as item
-use Rattle.c_grammar.specs.declared.refusal.Refusal.{Refusal}
-use Rattle.c_grammar.specs.declared.refusal.Refusal.TheVariants.{Memory, Syntax, TooDeep}
-use Rattle.c_grammar.specs.Words.{is_exp}
-use Rattle.c_grammar.specs.Reader.{Input, Reader, Outcome, Bind, Look, Give, Pick, token, only, pick, and_then, shape_at, ◌>>=◌, ◌>>◌}
-use Rattle.c_grammar.specs.Grammar.{read, is_kind, is_bind, is_colon, is_opening, is_closing, is_pattern_open, is_pattern_close, is_result, word_of, bound, pattern, block, definition, defined, item_by, an_item}
-use Rattle.c_grammar.specs.Spells.{SpellsItem}
-use Rattle.c_grammar.specs.Laws.{Agree, IsKnown, AreKnown, Reading, Source, Dead, AnyDepth, Within}
+use Rattle.c_grammar.specs.declared.refusal.Refusal.TheVariants.{Syntax, TooDeep}
+use Rattle.c_grammar.specs.Reader.{Input, Reader, Outcome, Bind, Pick, token, only, pick, and_then, shape_at}
+use Rattle.c_grammar.specs.Grammar.{read, is_kind, is_bind, is_opening, is_pattern_open, is_result, word_of, bound, pattern, definition, defined, item_by, an_item}
+use Rattle.c_grammar.specs.Laws.{IsKnown, AreKnown, Dead, AnyDepth, Within}
 use Rattle.c_grammar.proofs.Words.{at_left}
-use Rattle.c_grammar.proofs.Loops.{goes_on, same_place}
+use Rattle.c_grammar.proofs.Loops.{goes_on}
+use Rattle.c_grammar.proofs.Derives.{placed}
 use Rattle.c_grammar.proofs.Local.{from, Same, local, Onward, onward}
 use Rattle.c_grammar.proofs.Deeper.{Deeper, deeper}
 use Rattle.c_grammar.proofs.Alive.{tame_body, tame_item}
@@ -32,15 +28,12 @@ record Alike {A : Type 0} (d : ℕ) (w : List Token) (r q : Reader A) : Type 0 w
 same : {A : Type 0} (d : ℕ) (w : List Token) (r : Reader A) → Alike d w r r
 same d w r = record { from_any = λ i. refl }
 
-placed_at : {A : Type 0} (w : List Token) (i : ℕ) (o : Outcome A) (a : A) (p : Input) → o ≡ Ok (a, p) → Onward w i o → p ≡ from w p.at
-placed_at w i o a p e h = (rw e at h).0
-
 alike_bind : {A B : Type 0} (d : ℕ) (w : List Token) (r q : Reader B) (f g : B → Reader A) → Alike d w r q → ((b : B) → Alike d w (f b) (g b)) → Alike d w (Bind r f) (Bind q g)
 alike_bind d w r q f g R F = record {
   from_any = λ i. ap (λ o. and_then o (λ b j. read d (f b) j)) (R.from_any i)
-    ∙ goes_on (read d q (from w i)) (λ b j. read d (f b) j) (λ b j. read d (g b) j)
-        (λ b j e. let at : j ≡ from w j.at = placed_at w i (read d q (from w i)) b j e (onward d w q i) in
-          ap (λ j. read d (f b) j) at ∙ (F b).from_any j.at ∙ ap (λ j. read d (g b) j) (sym at));
+      ∙ goes_on (read d q (from w i)) (λ b j. read d (f b) j) (λ b j. read d (g b) j)
+      (λ b j e. let at : j ≡ from w j.at = placed w i (read d q (from w i)) b j e (onward d w q i) in
+      ap (λ j. read d (f b) j) at ∙ (F b).from_any j.at ∙ ap (λ j. read d (g b) j) (sym at));
 }
 
 then_alike : {A B : Type 0} (d : ℕ) (w : List Token) (r : Reader B) (f g : B → Reader A) → ((b : B) → Alike d w (f b) (g b)) → Alike d w (Bind r f) (Bind r g)
@@ -94,9 +87,9 @@ module _ (d : ℕ) (names : List (List ℕ)) (m : Option Word) (w : List Token) 
       let more : List (List ℕ) = names ++ V.more in
       let refused : read d (an_item more m) (from w i) ≡ Err (Syntax k) = sym (more_texts d names V.more w known m i) ∙ e in
       let bad : read (max d R.depth) (an_item more m) (from V.tokens i) ≡ Err (Syntax k) = refused_here V.tokens k _ _ _ refused
-        (local tame_body k w V.tokens V.agrees d (an_item more m) i (tame_item more m)) (deeper d (max d R.depth) (omega arith) (an_item more m) (from V.tokens i)) in
+      (local tame_body k w V.tokens V.agrees d (an_item more m) i (tame_item more m)) (deeper d (max d R.depth) (omega arith) (an_item more m) (from V.tokens i)) in
       let good : read (max d R.depth) (an_item more m) (from V.tokens i) ≡ Ok (R.tree, from V.tokens R.after) =
-        item_read V.tokens (max d R.depth) more m R.depth R.tree i R.after R.spelled (omega arith) in
+      item_read V.tokens (max d R.depth) more m R.depth R.tree i R.after R.spelled (omega arith) in
       absurd (cc (bad, good))
 
   -- nor has one within the limit, through one that is too deep

@@ -1,5 +1,5 @@
 -- Each prefix that is taken can be completed.
-use Rattle.std.proofs.Common.{◌≡◌, inl, inr, refl, subst, ap, sym, ◌∙◌, ℕ, zero, suc, ◌+◌, ◌-◌, ◌<◌, ◌≤◌, max, nat_lt, Bool, true, false, List, [], ◌∷◌, ◌++◌, length, Option, Some, None, Result, Ok, Err, arith}
+use Rattle.std.proofs.Common.{◌≡◌, inl, inr, refl, subst, ap, sym, ◌∙◌, ℕ, zero, suc, ◌+◌, ◌<◌, ◌≤◌, max, nat_lt, Bool, true, false, List, [], ◌∷◌, ◌++◌, length, Option, Some, None, Ok, Err, arith}
 use Rattle.std.proofs.lemmas.Bool.{cases_lt, lt-ltb}
 use borrow.Author.Tests.{ltb-true}
 use Rattle.c_tokens.specs.declared.token.Shape.{Shape}
@@ -9,18 +9,16 @@ use Rattle.c_grammar.specs.declared.context.Context.TheVariants.{InItem, InArgum
 use Rattle.c_tokens.specs.declared.token.Token.{Token}
 use Rattle.c_grammar.specs.Grammar.{binds}
 use Rattle.c_grammar.proofs.Sets.{Tokens}
-use Rattle.c_grammar.specs.declared.refusal.Refusal.{Refusal}
 use Rattle.c_grammar.specs.declared.refusal.Refusal.TheVariants.{Memory, Syntax, TooDeep}
-use Rattle.c_grammar.specs.Reader.{Input, Reader, Outcome, Turn, More, Last, Rule, Expression, MetaBlock, Read, Give, Refuse, Look, Next, Pick, Bind, Fits, Call, Loop, run, pick, when, and_then, after, loop, kind, next}
+use Rattle.c_grammar.specs.Reader.{Input, Reader, Outcome, Turn, More, Last, Rule, Expression, MetaBlock, Give, Refuse, Look, Next, Pick, Bind, Fits, Call, Loop, pick, when, and_then, after, loop}
 use Rattle.c_grammar.specs.Grammar.{read, below, body}
 use Rattle.c_grammar.specs.Reader.{shape_at}
 use Rattle.c_grammar.specs.Spells.{Stand}
-use Rattle.c_grammar.proofs.Loops.{Shrinks}
 use Rattle.c_grammar.proofs.Bounds.{Good, Bounded, Tame}
 use Rattle.c_grammar.proofs.Repeats.{goes_on, ends_with}
 use Rattle.c_grammar.proofs.Local.{from, Same, local, Onward, onward}
 use Rattle.c_grammar.specs.Laws.{Agree}
-use Rattle.c_grammar.proofs.Deeper.{Deeper, deeper, deeper_loop}
+use Rattle.c_grammar.proofs.Deeper.{Deeper, deeper}
 
 -- what opens the phrase, or what follows where it is empty, is one of these
 abbrev pub Opens : Tokens → List Shape → Tokens → Type 0

@@ -1,5 +1,5 @@
 -- Texts that may be added to a table of words.
-use Rattle.std.proofs.Common.{◌≡◌, ◌⊎◌, inl, inr, refl, subst, ap, sym, ◌∙◌, ℕ, zero, suc, ◌+◌, ◌<◌, ◌≤◌, ◌==◌, not, Bool, true, false, List, [], ◌∷◌, ◌++◌, length, Option, Some, None, append_assoc, length-append, codes, arith}
+use Rattle.std.proofs.Common.{◌≡◌, ◌⊎◌, inl, inr, refl, subst, ap, sym, ◌∙◌, ℕ, zero, suc, ◌+◌, ◌<◌, ◌==◌, not, Bool, true, false, List, [], ◌∷◌, ◌++◌, length, Option, Some, None, append_assoc, length-append, codes, arith}
 use Rattle.std.specs.Prelude.{slice_index_or}
 use Rattle.std.specs.Bool.{Decides}
 use Rattle.std.specs.Str.{bytes_eq}
@@ -11,7 +11,7 @@ use Rattle.c_tokens.specs.declared.token.Word.{Word}
 use Rattle.c_tokens.specs.declared.token.Shape.{Shape}
 use Rattle.c_tokens.specs.declared.token.Shape.TheVariants as s
 use Rattle.c_grammar.specs.declared.context.Context.TheVariants.{InItem}
-use Rattle.c_grammar.specs.Words.{is_identifier, is_exp, text_of, AreDistinct}
+use Rattle.c_grammar.specs.Words.{is_identifier, is_exp, AreDistinct}
 use Rattle.c_grammar.specs.Laws.{IsKnown}
 
 abbrev at : List (List ℕ) → ℕ → List ℕ
