@@ -17,14 +17,14 @@ use Rattle.c_trees.specs.declared.tree.Item.TheVariants as item
 use Rattle.c_grammar.specs.declared.context.Context.{Context}
 use Rattle.c_grammar.specs.declared.context.Context.TheVariants.{InItem, InArgument, InTemplate}
 use Rattle.c_grammar.specs.Words.{is_identifier, callee, binder, is_exp}
-use Rattle.c_grammar.specs.Reader.{Input, Reader, Outcome, More, Last, Rule, Expression, MetaBlock, Found, Give, Look, Next, Pick, Bind, Fits, Call, pick, choose, token, next, shape_at, ◌>>=◌, ◌>>◌}
+use Rattle.c_grammar.specs.Reader.{Input, Reader, More, Last, Rule, Expression, MetaBlock, Found, Give, Look, Next, Pick, Bind, Fits, Call, pick, choose, token, next, shape_at, ◌>>=◌, ◌>>◌}
 use Rattle.c_grammar.specs.Grammar.{read, below, body, binds, joined, is_opening, is_closing, is_equal, is_semicolon, is_colon, is_right_brace, is_return, is_result, is_pattern_open, is_pattern_close, is_bind, word_of, identifier_of, is_kind, is_named, parenthesized, called, placed, reserved, placeholder, primary_by, primary, longer, climb, expression, quoted, quote_by, quote, meta_block, block_by, block, bound, pattern, definition, declaration, defined, item_by, an_item, chosen}
 use Rattle.c_grammar.specs.Laws.{IsKnown}
 use Rattle.c_grammar.proofs.Sets.{Tokens, anything}
 use Rattle.c_grammar.proofs.Loops.{split, same_answer}
 use Rattle.c_grammar.proofs.Chain.{no_turn, bounded}
 use Rattle.c_grammar.proofs.Derives as derives
-use Rattle.c_grammar.proofs.Local.{from, Onward, onward}
+use Rattle.c_grammar.proofs.Local.{from, onward}
 use Rattle.c_grammar.proofs.Bounds.{Good, Tame}
 use Rattle.c_grammar.proofs.Live.{Opens, Each, HasUsable, Usable, following, needs, Ends, Finishes, Phrase, Yields, Live, ends_bind, fin_bind, each_append, raised}
 

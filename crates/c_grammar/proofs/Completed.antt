@@ -1,14 +1,13 @@
 -- Each prefix of an item that is taken can be completed to one.
-use Rattle.std.proofs.Common.{◌≡◌, inl, inr, refl, subst, ap, sym, ◌∙◌, ℕ, zero, suc, ◌+◌, ◌-◌, ◌<◌, ◌≤◌, List, [], ◌∷◌, ◌++◌, Option, Ok, arith}
+use Rattle.std.proofs.Common.{◌≡◌, inl, inr, refl, subst, ap, sym, ◌∙◌, ℕ, zero, suc, ◌+◌, ◌-◌, ◌<◌, ◌≤◌, List, [], ◌∷◌, ◌++◌, Option, arith}
 use Rattle.std.proofs.lemmas.Bool.{cases_lt}
 use Rattle.c_tokens.specs.declared.token.Word.{Word}
 use Rattle.c_tokens.specs.declared.token.Shape.{Shape}
 use Rattle.c_tokens.specs.declared.token.Token.{Token}
-use Rattle.c_trees.specs.declared.tree.Item.{Item}
 use Rattle.c_grammar.specs.Words.{AreDistinct}
 use Rattle.c_grammar.specs.Reader.{token_at, shape_at}
 use Rattle.c_grammar.specs.Grammar.{read, an_item}
-use Rattle.c_grammar.specs.Spells.{Stand, SpellsItem}
+use Rattle.c_grammar.specs.Spells.{Stand}
 use Rattle.c_grammar.specs.Laws.{Agree, IsKnown, AreKnown, Reading, Source, AnyDepth}
 use Rattle.c_grammar.specs.Laws as laws
 use Rattle.c_grammar.proofs.Sets.{anything}
@@ -17,6 +16,7 @@ use Rattle.c_grammar.proofs.Local.{from}
 use Rattle.c_grammar.proofs.Live.{Each, Ends, Before, Continues, live}
 use Rattle.c_grammar.proofs.Alive.{Alive, tame_body, tame_item, live_body, shortest, alive_item}
 use Rattle.c_grammar.proofs.Dead.{more_texts}
+use Rattle.c_grammar.proofs.SoundItems.{sound_item}
 
 -- ---- the tokens through a place, and what follows them
 
@@ -51,8 +51,7 @@ each_known names [] h m = tt
 each_known names (x ∷ u) h zero = h.0
 each_known names (x ∷ u) h (suc m) = each_known names u h.1 m
 
-module _ (sound : (d : ℕ) (w : List Token) (names : List (List ℕ)) (m : Option Word) (t : Item) (i j : ℕ) → read d (an_item names m) (from w i) ≡ Ok (t, from w j) → SpellsItem d w names m t i j)
-    (names : List (List ℕ)) (m : Option Word) (distinct : AreDistinct names) (w : List Token) (known : AreKnown names w) where
+module _ (names : List (List ℕ)) (m : Option Word) (distinct : AreDistinct names) (w : List Token) (known : AreKnown names w) where
   abbrev words : Enough names m
   words = enough names m distinct
 
@@ -79,11 +78,11 @@ module _ (sound : (d : ℕ) (w : List Token) (names : List (List ℕ)) (m : Opti
   abbrev source : (p n : ℕ) → p < n → (u : List Shape) → Each (IsKnown all) u → Source names w p
   source p n less u h = record { more = words.more; distinct = words.distinct; tokens = with_front n u; known = all_known n u h; agrees = agrees p n less u }
 
-  spelled : (p n : ℕ) (less : p < n) (u : List Shape) (h : Each (IsKnown all) u) (i j : ℕ) → Ends (an_item all m) (with_front n u) i j → laws.Live AnyDepth names m w i p
-  spelled p n less u h i j E = record {
-    source = source p n less u h;
-    reading = record { depth = E.levels; allowed = tt; tree = E.value; after = j; spelled = sound E.levels (with_front n u) all m E.value i j E.reads };
-  }
+  -- what is read of it is spelled
+  spelled : (p n : ℕ) → p < n → (u : List Shape) → Each (IsKnown all) u → (i j : ℕ) → Ends (an_item all m) (with_front n u) i j → laws.Live AnyDepth names m w i p
+  spelled p n less u h i j E =
+      let S = sound_item (with_front n u) E.levels all m i E.value (from (with_front n u) j) E.reads in
+      record { source = source p n less u h; reading = record { depth = E.levels; allowed = tt; tree = E.value; after = S.0; spelled = S.1.1 } }
 
   abbrev whole : Alive (IsKnown all) 0 anything (an_item all m) (shortest all words.constant words.constant_known words.kind words.kind_known words.is_kind m words.name words.name_known words.free)
   whole = alive_item all words.constant words.constant_known words.kind words.kind_known words.is_kind m words.name words.name_known words.free

@@ -8,13 +8,13 @@ use Rattle.c_tokens.specs.declared.token.Shape.TheVariants as s
 use Rattle.c_tokens.specs.declared.token.Token.{Token}
 use Rattle.c_tokens.specs.declared.token.Mark.TheVariants as mark
 use Rattle.c_grammar.specs.declared.refusal.Refusal.TheVariants.{Syntax, TooDeep}
-use Rattle.c_grammar.specs.Reader.{Input, Reader, Outcome, Bind, Pick, token, only, pick, and_then, shape_at}
+use Rattle.c_grammar.specs.Reader.{Reader, Outcome, Bind, Pick, token, only, pick, and_then, shape_at}
 use Rattle.c_grammar.specs.Grammar.{read, is_kind, is_bind, is_opening, is_pattern_open, is_result, word_of, bound, pattern, definition, defined, item_by, an_item}
 use Rattle.c_grammar.specs.Laws.{IsKnown, AreKnown, Dead, AnyDepth, Within}
 use Rattle.c_grammar.proofs.Words.{at_left}
 use Rattle.c_grammar.proofs.Loops.{goes_on}
 use Rattle.c_grammar.proofs.Derives.{placed}
-use Rattle.c_grammar.proofs.Local.{from, Same, local, Onward, onward}
+use Rattle.c_grammar.proofs.Local.{from, Same, local, onward}
 use Rattle.c_grammar.proofs.Deeper.{Deeper, deeper}
 use Rattle.c_grammar.proofs.Alive.{tame_body, tame_item}
 use Rattle.c_grammar.proofs.Items.{item_read}
