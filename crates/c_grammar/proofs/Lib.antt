@@ -11,6 +11,7 @@ pub mod Alive
 pub mod Dead
 pub mod Completed
 pub mod Answered
+pub mod Examples
 pub mod Chain
 pub mod Complete
 pub mod Items
