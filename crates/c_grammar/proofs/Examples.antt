@@ -1,5 +1,5 @@
 -- Worked rows: where an item is refused, and what that says.
-use Rattle.std.proofs.Common.{◌≡◌, refl, ℕ, zero, suc, ◌<◌, List, [], ◌∷◌, Option, None, Err, codes, arith}
+use Rattle.std.proofs.Common.{◌≡◌, refl, ℕ, zero, suc, List, [], ◌∷◌, None, Err, codes, arith}
 use Rattle.c_tokens.specs.declared.token.Word.{Word}
 use Rattle.c_tokens.specs.declared.token.Shape.{Shape}
 use Rattle.c_tokens.specs.declared.token.Shape.TheVariants as s
@@ -9,8 +9,7 @@ use Rattle.c_tokens.specs.declared.token.Punct.TheVariants as punct
 use Rattle.c_tokens.specs.declared.token.Mark.TheVariants as mark
 use Rattle.c_grammar.specs.declared.refusal.Refusal.TheVariants.{Syntax, TooDeep}
 use Rattle.c_grammar.specs.Words.{AreDistinct}
-use Rattle.c_grammar.specs.Reader.{loop}
-use Rattle.c_grammar.specs.Grammar.{read, below, an_item, declaration, definition, pattern, bound, expression, primary, climb}
+use Rattle.c_grammar.specs.Grammar.{read, an_item, declaration, definition, pattern, bound, expression, primary}
 use Rattle.c_grammar.specs.Laws.{AreKnown, IsFirstDead, IsTooDeep}
 use Rattle.c_grammar.proofs.Local.{from}
 use Rattle.c_grammar.proofs.Answered.{first_dead, only_deep}
