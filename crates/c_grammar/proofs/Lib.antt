@@ -20,3 +20,4 @@ pub mod Raise
 pub mod Sound
 pub mod Unique
 pub mod SoundItems
+pub mod Growth
