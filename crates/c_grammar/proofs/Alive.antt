@@ -1,5 +1,5 @@
 -- Each rule is live.
-use Rattle.std.proofs.Common.{◌≡◌, refl, subst, ap, sym, ◌∙◌, ℕ, suc, ◌+◌, ◌<◌, max, nat_lt, Bool, true, false, List, [], ◌∷◌, ◌++◌, length, Option, Some, None, Ok, arith}
+use Rattle.std.proofs.Common.{◌≡◌, refl, subst, ap, sym, ◌∙◌, ℕ, suc, ◌+◌, ◌<◌, max, nat_lt, Bool, true, false, List, [], ◌∷◌, ◌++◌, Option, Some, None, Ok, arith}
 use Rattle.std.proofs.lemmas.Bool.{lt-ltb}
 use Rattle.std.proofs.lemmas.Bool.Decides.{Decides-eqb}
 use Rattle.std.proofs.lemmas.List.{append-nil}
@@ -270,7 +270,7 @@ module _ (K : Shape → Type 0) where
   live_give deep P Q r f up L = (P, (L, (record { tokens = []; usable = tt; opens = up; finishes = λ b. give Q (f b) }, λ b _. tt)))
 
 -- `zero` is the number of a constant
-module _ (names : List (List ℕ)) (zero : Word) (has_zero : zero.0 < length names) where
+module _ (names : List (List ℕ)) (zero : Word) (has_zero : IsKnown names (s.Int zero)) where
   abbrev K : Shape → Type 0
   K = IsKnown names
 
@@ -461,7 +461,7 @@ module _ (names : List (List ℕ)) (zero : Word) (has_zero : zero.0 < length nam
   -- ---- the items
 
   -- `kind` names the kind of expressions
-  module _ (kind : Word) (has_kind : kind.0 < length names) (names_kind : is_exp names kind ≡ true) where
+  module _ (kind : Word) (has_kind : IsKnown names (s.Word kind)) (names_kind : is_exp names kind ≡ true) where
     abbrev binding : List Shape
     binding = s.Mark mark.Bind ∷ s.Word kind ∷ s.Punct punct.Colon ∷ s.Punct punct.Colon ∷ s.Word kind ∷ []
 
@@ -493,7 +493,7 @@ module _ (names : List (List ℕ)) (zero : Word) (has_zero : zero.0 < length nam
         (λ x Y. live_give K 0 anything anything (block x) (λ template. item.Definition (record { name = name; binder = x; template = template })) (λ y q. q) (live_block x anything (pattern_known K names x Y)))))
 
     -- `y` may be declared
-    module _ (m : Option Word) (y : Word) (has_y : y.0 < length names) (free : is_identifier (InItem m) y ≡ true) where
+    module _ (m : Option Word) (y : Word) (has_y : IsKnown names (s.Word y)) (free : is_identifier (InItem m) y ≡ true) where
       abbrev declaring : List Shape
       declaring = s.Word y ∷ s.Punct punct.Equal ∷ s.Int zero ∷ s.Punct punct.Semicolon ∷ []
 

@@ -11,7 +11,8 @@ use Rattle.c_grammar.specs.declared.refusal.Refusal.TheVariants.{Syntax, TooDeep
 use Rattle.c_grammar.specs.Reader.{Reader, Outcome, Bind, Pick, token, only, pick, and_then, shape_at}
 use Rattle.c_grammar.specs.Grammar.{read, is_kind, is_bind, is_opening, is_pattern_open, is_result, word_of, bound, pattern, definition, defined, item_by, an_item}
 use Rattle.c_grammar.specs.Laws.{IsKnown, AreKnown, Dead, AnyDepth, Within}
-use Rattle.c_grammar.proofs.Words.{at_left}
+use Rattle.c_grammar.proofs.Words.{at_left, within_table}
+use Rattle.c_trees.specs.Named.{is_word_spelling}
 use Rattle.c_grammar.proofs.Loops.{goes_on}
 use Rattle.c_grammar.proofs.Derives.{placed}
 use Rattle.c_grammar.proofs.Local.{from, Same, local, onward}
@@ -41,7 +42,7 @@ then_alike d w r f g F = alike_bind d w r r f g (same d w r) F
 
 module _ (d : ℕ) (names more : List (List ℕ)) (w : List Token) (known : AreKnown names w) where
   same_kind : (x : Shape) → IsKnown names x → is_kind names x ≡ is_kind (names ++ more) x
-  same_kind (s.Word n) k = ap (λ t. bytes_eq t (codes "exp")) (sym (at_left names more n.0 k))
+  same_kind (s.Word n) k = ap (λ t. bytes_eq t (codes "exp")) (sym (at_left names more n.0 (within_table names n is_word_spelling k)))
   same_kind _ k = refl
 
   alike_kind : Alike d w (token (is_kind names)) (token (is_kind (names ++ more)))

@@ -10,7 +10,9 @@ use Rattle.c_tokens.specs.declared.token.Mark.TheVariants as mark
 use Rattle.c_grammar.specs.declared.refusal.Refusal.TheVariants.{Syntax, TooDeep}
 use Rattle.c_grammar.specs.Words.{AreDistinct}
 use Rattle.c_grammar.specs.Grammar.{read, an_item, declaration, definition, pattern, bound, expression, primary}
-use Rattle.c_grammar.specs.Laws.{AreKnown, IsFirstDead, IsTooDeep}
+use Rattle.c_tokens.specs.Bytes.{is_digit, is_letter, is_word_byte}
+use Rattle.c_tokens.specs.Spelling.{spelling_of, word_spelling, find_text, keywords, is_word}
+use Rattle.c_grammar.specs.Laws.{IsKnown, AreKnown, IsFirstDead, IsTooDeep}
 use Rattle.c_grammar.proofs.Local.{from}
 use Rattle.c_grammar.proofs.Answered.{first_dead, only_deep}
 
@@ -28,13 +30,17 @@ m = record { 0 = 0 }
 distinct : AreDistinct names
 distinct i j a b e = omega arith
 
+m_known : IsKnown names (s.Word m)
+unfolding spelling_of word_spelling find_text keywords is_word is_letter is_digit is_word_byte
+m_known = refl
+
 -- `int m = ;` lacks a value
 abbrev no_value : List Token
 no_value = tokens (s.Key key.Int ∷ s.Word m ∷ s.Punct punct.Equal ∷ s.Punct punct.Semicolon ∷ [])
 
 no_value_known : AreKnown names no_value
 no_value_known zero = tt
-no_value_known (suc zero) = omega arith
+no_value_known (suc zero) = m_known
 no_value_known (suc (suc zero)) = tt
 no_value_known (suc (suc (suc zero))) = tt
 no_value_known (suc (suc (suc (suc k)))) = tt
@@ -52,7 +58,7 @@ opened = tokens (s.Key key.Int ∷ s.Word m ∷ s.Punct punct.Equal ∷ s.Punct 
 
 opened_known : AreKnown names opened
 opened_known zero = tt
-opened_known (suc zero) = omega arith
+opened_known (suc zero) = m_known
 opened_known (suc (suc zero)) = tt
 opened_known (suc (suc (suc zero))) = tt
 opened_known (suc (suc (suc (suc k)))) = tt
@@ -71,11 +77,11 @@ no_kind = tokens (s.Mark mark.Syntax ∷ s.Mark mark.Exp ∷ s.Word m ∷ s.Mark
 no_kind_known : AreKnown names no_kind
 no_kind_known zero = tt
 no_kind_known (suc zero) = tt
-no_kind_known (suc (suc zero)) = omega arith
+no_kind_known (suc (suc zero)) = m_known
 no_kind_known (suc (suc (suc zero))) = tt
 no_kind_known (suc (suc (suc (suc zero)))) = tt
 no_kind_known (suc (suc (suc (suc (suc zero))))) = tt
-no_kind_known (suc (suc (suc (suc (suc (suc zero)))))) = omega arith
+no_kind_known (suc (suc (suc (suc (suc (suc zero)))))) = m_known
 no_kind_known (suc (suc (suc (suc (suc (suc (suc k))))))) = tt
 
 no_kind_refused : read 2 (an_item names None) (from no_kind 0) ≡ Err (Syntax 6)

@@ -22,3 +22,4 @@ pub mod Unique
 pub mod SoundItems
 pub mod Growth
 pub mod Worked
+pub mod Named

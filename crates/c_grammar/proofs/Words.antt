@@ -13,6 +13,13 @@ use Rattle.c_tokens.specs.declared.token.Shape.TheVariants as s
 use Rattle.c_grammar.specs.declared.context.Context.TheVariants.{InItem}
 use Rattle.c_grammar.specs.Words.{is_identifier, is_exp, AreDistinct}
 use Rattle.c_grammar.specs.Laws.{IsKnown}
+use Rattle.c_tokens.specs.Bytes.{is_digit, is_letter, is_word_byte}
+use Rattle.c_tokens.specs.Spelling.{Spelling, spelling_of, word_spelling, find_text, keywords, is_word, is_marked_word, is_word_after_at, is_number, goes_on_number, starts_with_digit, is_decimal}
+use Rattle.c_trees.specs.Named.{is_word_spelling, is_integer_spelling}
+use Rattle.c_trees.proofs.Parts.{both, first_of_both, second_of_both}
+use Rattle.std.proofs.Common.{nat_lt, ◌&&◌}
+use Rattle.std.proofs.lemmas.Bool.{lt-ltb}
+use borrow.Author.Tests.{ltb-true}
 
 abbrev at : List (List ℕ) → ℕ → List ℕ
 at names n = slice_index_or names n []
@@ -90,34 +97,56 @@ add names text D = elim (find names text) [
 
 -- ---- what completes an item
 
+exp_text : is_word_spelling (spelling_of (codes "exp")) ≡ true
+unfolding spelling_of word_spelling find_text keywords is_word is_letter is_digit is_word_byte
+exp_text = refl
+
+a_text : is_word_spelling (spelling_of (codes "a")) ≡ true
+unfolding spelling_of word_spelling find_text keywords is_word is_letter is_digit is_word_byte
+a_text = refl
+
+b_text : is_word_spelling (spelling_of (codes "b")) ≡ true
+unfolding spelling_of word_spelling find_text keywords is_word is_letter is_digit is_word_byte
+b_text = refl
+
+zero_text : is_integer_spelling (spelling_of (codes "0")) ≡ true
+unfolding spelling_of is_word is_letter is_digit is_marked_word is_word_after_at is_number goes_on_number starts_with_digit is_decimal
+zero_text = refl
+
+abbrev word : ℕ → Word
+word n = record { 0 = n }
+
+is_a_word : (names : List (List ℕ)) (text : List ℕ) (h : Has names text) → is_word_spelling (spelling_of text) ≡ true → IsKnown names (s.Word (word h.number))
+is_a_word names text h e = both _ _ (lt-ltb h.number (length names) h.within) (ap (λ t. is_word_spelling (spelling_of t)) h.found ∙ e)
+
+is_a_constant : (names : List (List ℕ)) (text : List ℕ) (h : Has names text) → is_integer_spelling (spelling_of text) ≡ true → IsKnown names (s.Int (word h.number))
+is_a_constant names text h e = both _ _ (lt-ltb h.number (length names) h.within) (ap (λ t. is_integer_spelling (spelling_of t)) h.found ∙ e)
+
 -- Texts with the name of the kind of expressions, a constant, and a name that an item may declare.
 pub record Enough (names : List (List ℕ)) (m : Option Word) : Type 0 where
   pub more : List (List ℕ)
   pub distinct : AreDistinct (names ++ more)
   pub kind : Word
-  pub kind_known : kind.0 < length (names ++ more)
+  pub kind_known : IsKnown (names ++ more) (s.Word kind)
   pub is_kind : is_exp (names ++ more) kind ≡ true
   pub constant : Word
-  pub constant_known : constant.0 < length (names ++ more)
+  pub constant_known : IsKnown (names ++ more) (s.Int constant)
   pub name : Word
-  pub name_known : name.0 < length (names ++ more)
+  pub name_known : IsKnown (names ++ more) (s.Word name)
   pub free : is_identifier (InItem m) name ≡ true
 
-record Name (size : ℕ) (m : Option Word) : Type 0 where
+record Name (names : List (List ℕ)) (m : Option Word) : Type 0 where
   name : Word
-  known : name.0 < size
+  known : IsKnown names (s.Word name)
   free : is_identifier (InItem m) name ≡ true
 
-abbrev word : ℕ → Word
-word n = record { 0 = n }
-
 -- one of two words is not the name of the macro
-another : (size a b : ℕ) (m : Word) (is_a is_b : Bool) → a < size → b < size → (a ≡ b → ⊥) → a == m.0 ≡ is_a → b == m.0 ≡ is_b → Name size (Some m)
+another : (names : List (List ℕ)) (a b : ℕ) (m : Word) (is_a is_b : Bool) → IsKnown names (s.Word (word a)) → IsKnown names (s.Word (word b)) → (a ≡ b → ⊥) → a == m.0 ≡ is_a → b == m.0 ≡ is_b → Name names (Some m)
 another size a b m false is_b la lb other ea eb = record { name = word a; known = la; free = ap not ea }
 another size a b m true false la lb other ea eb = record { name = word b; known = lb; free = ap not eb }
 another size a b m true true la lb other ea eb = absurd (other ((Decides-eqb a m.0).0 ea ∙ sym ((Decides-eqb b m.0).0 eb)))
 
-a_name : (size a b : ℕ) (m : Option Word) → a < size → b < size → (a ≡ b → ⊥) → Name size m
+a_name : (names : List (List ℕ)) (a b : ℕ) (m : Option Word) → IsKnown names (s.Word (word a)) → IsKnown names (s.Word (word b)) → (a ≡ b → ⊥) → Name names m
 a_name size a b None la lb other = record { name = word a; known = la; free = refl }
 a_name size a b (Some m) la lb other = another size a b m (a == m.0) (b == m.0) la lb other refl refl
 
@@ -142,15 +171,15 @@ enough names m D =
     let constant : Has (names ++ more) (codes "0") = subst (λ t. Has t (codes "0")) same (has_left _ E.more _ (has_left _ C.more _ B.has)) in
     let a : Has (names ++ more) (codes "a") = subst (λ t. Has t (codes "a")) same (has_left _ E.more _ C.has) in
     let b : Has (names ++ more) (codes "b") = subst (λ t. Has t (codes "b")) same E.has in
-    let free : Name (length (names ++ more)) m = a_name (length (names ++ more)) a.number b.number m a.within b.within (unlike (names ++ more) a.number b.number a.found b.found) in
+    let free : Name (names ++ more) m = a_name (names ++ more) a.number b.number m (is_a_word (names ++ more) (codes "a") a a_text) (is_a_word (names ++ more) (codes "b") b b_text) (unlike (names ++ more) a.number b.number a.found b.found) in
     record {
       more = more;
       distinct = subst AreDistinct same E.distinct;
       kind = word kind.number;
-      kind_known = kind.within;
+      kind_known = is_a_word (names ++ more) (codes "exp") kind exp_text;
       is_kind = (bytes_eq-Decides (at (names ++ more) kind.number) (codes "exp")).1 kind.found;
       constant = word constant.number;
-      constant_known = constant.within;
+      constant_known = is_a_constant (names ++ more) (codes "0") constant zero_text;
       name = free.name;
       name_known = free.known;
       free = free.free;
@@ -158,9 +187,20 @@ enough names m D =
 
 -- ---- what is known stays known
 
+-- a number with a text that passes a test is within the table
+pub within_table : (names : List (List ℕ)) (n : Word) (test : Option Spelling → Bool) → (nat_lt n.0 (length names) && test (spelling_of (at names n.0))) ≡ true → n.0 < length names
+within_table names n test h = ltb-true n.0 (length names) (first_of_both _ _ h)
+
+longer : (names more : List (List ℕ)) (n : Word) (test : Option Spelling → Bool) → (nat_lt n.0 (length names) && test (spelling_of (at names n.0))) ≡ true
+    → (nat_lt n.0 (length (names ++ more)) && test (spelling_of (at (names ++ more) n.0))) ≡ true
+longer names more n test h =
+    let less : n.0 < length names = within_table names n test h in
+    let more_less : n.0 < length (names ++ more) = omega (arith, length-append names more) in
+    both _ _ (lt-ltb n.0 (length (names ++ more)) more_less) (ap (λ t. test (spelling_of t)) (at_left names more n.0 less) ∙ second_of_both _ _ h)
+
 pub known_more : (names more : List (List ℕ)) (x : Shape) → IsKnown names x → IsKnown (names ++ more) x
-known_more names more (s.Word n) h = omega (arith, length-append names more)
-known_more names more (s.Int n) h = omega (arith, length-append names more)
+known_more names more (s.Word n) h = longer names more n is_word_spelling h
+known_more names more (s.Int n) h = longer names more n is_integer_spelling h
 known_more names more (s.Float n) h = omega (arith, length-append names more)
 known_more names more (s.Char n) h = omega (arith, length-append names more)
 known_more names more (s.Str n) h = omega (arith, length-append names more)
