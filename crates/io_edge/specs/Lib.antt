@@ -1,0 +1,6 @@
+pub mod Faults
+pub mod Files
+pub mod Got
+pub mod Picked
+pub mod Put
+pub mod Source

@@ -1,0 +1,12 @@
+//! The edge to the world: shelves that files are read from, and sinks that bytes are sent to.
+#![tactic(auto)]
+
+mod read;
+mod shelf;
+mod sink;
+mod write;
+
+pub use read::{ReadStop, read_source};
+pub use shelf::{Got, Picked, Shelf};
+pub use sink::{Put, Sink};
+pub use write::{WriteFault, put_all};
