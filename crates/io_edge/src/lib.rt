@@ -1,11 +1,17 @@
 //! The edge to the world: shelves that files are read from, and sinks that bytes are sent to.
 #![tactic(auto)]
 
+mod calls;
+mod files;
+
+mod memory_sink;
 mod read;
 mod shelf;
 mod sink;
 mod write;
 
+
+pub use memory_sink::MemorySink;
 pub use read::{ReadStop, read_source};
 pub use shelf::{Got, Picked, Shelf};
 pub use sink::{Put, Sink};
