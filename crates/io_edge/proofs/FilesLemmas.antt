@@ -3,9 +3,9 @@ use Rattle.std.specs.Prelude.{Option, Some, None, if◌then◌else◌}
 use Rattle.std.specs.Option.{option_or}
 use Rattle.std.specs.Str.{bytes_eq}
 use Rattle.std.proofs.lemmas.Slice.Eq.{bytes_eq-Decides}
-use Rattle.std.proofs.lemmas.List.{set_split, take_more}
+use Rattle.std.proofs.lemmas.List.{set_split, take_more, get_or_default}
 use Rattle.std.proofs.lemmas.Grind.{common_steps}
-use Rattle.io_edge.specs.MemoryShelf.{file_named, IsFirstNamed, Puts}
+use Rattle.io_edge.specs.MemoryShelf.{file_named, bytes_at, IsFirstNamed, Puts}
 use Rattle.io_edge.specs.declared.files.File.{File}
 
 pub file_named-append : (xs ys : List File) (name : List ℕ)
@@ -47,6 +47,18 @@ other_more files place name file within is differs none =
        , none
        , differs
        )
+
+-- The first file of the name was found.
+pub named_here : (files : List File) (place : ℕ) (name : List ℕ) (file : File)
+  → place < length files → file ≡ get_or files place file
+  → bytes_eq file.name name ≡ true
+  → file_named (take place files) name ≡ None
+  → file_named files name ≡ Some (bytes_at files place)
+named_here files place name file within is same none =
+    let here : file_named (take place files ++ file ∷ drop (suc place) files) name ≡ Some file.bytes =
+        rw (file_named-append (take place files) (file ∷ drop (suc place) files) name, none, same)
+    in ap (λ fs. file_named fs name) (split_at files place file within is) ∙ here
+       ∙ ap (λ (f : File). Some f.bytes) (is ∙ get_or_default files place file (record { name = []; bytes = [] }) within)
 
 -- the file between these others gets other bytes
 pub put_between : (before after : List File) (file : File) (name bytes : List ℕ)

@@ -3,14 +3,14 @@
 
 mod calls;
 mod files;
-
+mod memory_shelf;
 mod memory_sink;
 mod read;
 mod shelf;
 mod sink;
 mod write;
 
-
+pub use memory_shelf::MemoryShelf;
 pub use memory_sink::MemorySink;
 pub use read::{ReadStop, read_source};
 pub use shelf::{Got, Picked, Shelf};
