@@ -6,3 +6,4 @@ pub mod MemorySink
 pub mod Picked
 pub mod Put
 pub mod Source
+pub mod SureShelf

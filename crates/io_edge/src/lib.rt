@@ -8,6 +8,8 @@ mod memory_sink;
 mod read;
 mod shelf;
 mod sink;
+mod sure_shelf;
+mod sure_sink;
 mod write;
 
 pub use memory_shelf::MemoryShelf;
@@ -15,4 +17,6 @@ pub use memory_sink::MemorySink;
 pub use read::{ReadStop, read_source};
 pub use shelf::{Got, Picked, Shelf};
 pub use sink::{Put, Sink};
+pub use sure_shelf::SureShelf;
+pub use sure_sink::SureSink;
 pub use write::{WriteFault, put_all};
