@@ -6,4 +6,5 @@ pub mod MemorySink
 pub mod Picked
 pub mod Put
 pub mod Source
+pub mod StdShelf
 pub mod SureShelf
