@@ -3,9 +3,8 @@
 ghost use Rattle.std.specs.Prelude.{◌≡◌, ◌<◌, OnOk, OnErr, ◌++◌, IfSome, IfNone, Some, None, length, take, drop, min};
 ghost use Rattle.io_edge.specs.MemoryShelf.{file_named, bytes_at, IsFirstNamed, Puts};
 
-use std::alloc::Global;
-
 use c_tokens::{Bytes, Memory};
+use std::alloc::Global;
 
 /// A file in memory.
 #[derive(Debug, Drop)]

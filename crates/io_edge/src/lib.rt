@@ -24,3 +24,6 @@ pub use std_sink::StdSink;
 pub use sure_shelf::SureShelf;
 pub use sure_sink::SureSink;
 pub use write::{WriteFault, put_all};
+
+#[cfg(test)]
+mod tests;

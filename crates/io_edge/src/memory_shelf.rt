@@ -6,14 +6,12 @@ ghost use Rattle.io_edge.specs.Picked.{OnReady, OnAbsent, OnPickFailed};
 ghost use Rattle.io_edge.specs.Got.{IfBytes, OnEnd, OnReadFailed};
 ghost use Rattle.io_edge.specs.MemoryShelf.{file_named, bytes_left, Puts};
 
-use std::alloc::Global;
-use std::marker::Model;
-
-use c_tokens::{List, Memory};
-
 use crate::calls::Calls;
 use crate::files::{File, Reading, copy_front, find_file, put_file};
 use crate::shelf::{Got, Picked, Shelf};
+use c_tokens::{List, Memory};
+use std::alloc::Global;
+use std::marker::Model;
 
 /// A shelf that holds its files itself. Contracts see its files, what is left of the picked one, and
 /// how many calls and faults there were.

@@ -4,13 +4,11 @@ ghost use Rattle.std.specs.Prelude.{◌≡◌, ◌≤◌, ◌<◌, ◌-◌, ◌+
 ghost use Rattle.io_edge.specs.Faults.{one_more, Rose};
 ghost use Rattle.io_edge.specs.Put.{IfTook, OnSendFailed, Appends};
 
-use std::alloc::Global;
-use std::marker::Model;
-
-use c_tokens::{List, Memory};
-
 use crate::calls::Calls;
 use crate::sink::{Put, Sink};
+use c_tokens::{List, Memory};
+use std::alloc::Global;
+use std::marker::Model;
 
 /// A sink that keeps what it takes, up to a given number of bytes.
 #[derive(Debug, Drop)]

@@ -5,13 +5,12 @@ ghost use Rattle.io_edge.specs.Faults.{Rose};
 ghost use Rattle.io_edge.specs.Files.{file_at};
 ghost use Rattle.io_edge.specs.Source.{IsAnswerFor};
 
+use crate::shelf::{Got, Picked, Shelf};
 use std::alloc::{AllocError, Global};
 use thiserror::Error;
 
-use crate::shelf::{Got, Picked, Shelf};
-
 /// Why a file was not read.
-#[derive(Debug, Drop, Error)]
+#[derive(Clone, Copy, Debug, PartialEq, Eq, Error)]
 pub enum ReadStop {
     #[error("there is no such file")]
     Absent,

@@ -5,12 +5,11 @@ ghost use Rattle.io_edge.specs.Faults.{one_more};
 ghost use Rattle.io_edge.specs.Picked.{OnReady, OnPickFailed};
 ghost use Rattle.io_edge.specs.Got.{IfBytes, OnEnd, OnReadFailed};
 
+use crate::shelf::{Got, Picked, Shelf};
 use std::fs;
 use std::io::{Input, Read};
 use std::marker::Model;
 use std::rt::Files;
-
-use crate::shelf::{Got, Picked, Shelf};
 
 /// What is picked.
 #[derive(Drop)]

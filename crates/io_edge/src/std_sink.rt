@@ -4,10 +4,9 @@ ghost use Rattle.std.specs.Prelude.{◌≡◌, ◌≤◌, ◌<◌, None, length}
 ghost use Rattle.io_edge.specs.Faults.{one_more};
 ghost use Rattle.io_edge.specs.Put.{IfTook, OnSendFailed};
 
+use crate::sink::{Put, Sink};
 use std::io::Write;
 use std::marker::Model;
-
-use crate::sink::{Put, Sink};
 
 /// A writer of the system as a sink: standard output, standard error or a file. It tells no bytes, and a
 /// write that takes nothing is a failure.

@@ -5,13 +5,11 @@ ghost use Rattle.io_edge.specs.Picked.{OnReady, OnAbsent};
 ghost use Rattle.io_edge.specs.Got.{IfBytes, OnEnd};
 ghost use Rattle.io_edge.specs.MemoryShelf.{file_named, Puts};
 
-use std::alloc::Global;
-use std::marker::Model;
-
-use c_tokens::{List, Memory};
-
 use crate::memory_shelf::MemoryShelf;
 use crate::shelf::{Got, Picked, Shelf};
+use c_tokens::{List, Memory};
+use std::alloc::Global;
+use std::marker::Model;
 
 /// A `MemoryShelf` of which no call fails.
 #[derive(Debug, Drop)]

@@ -5,7 +5,7 @@ ghost use Rattle.std.specs.Prelude.{◌≡◌, ◌<◌, None, length};
 use crate::sink::{Put, Sink};
 
 /// A sink that takes each piece whole, keeps no bytes and never fails.
-#[derive(Clone, Copy, Debug, PartialEq, Eq)]
+#[derive(Clone, Copy, Debug, Default, PartialEq, Eq)]
 pub struct SureSink;
 
 impl SureSink {
