@@ -2,8 +2,8 @@
 #![tactic(auto)]
 
 mod lines;
+mod printer;
 mod shapes;
 mod texts;
 
-pub use lines::write_line;
-pub use shapes::declaration_shapes;
+pub use printer::print;
