@@ -9,4 +9,4 @@ mod token;
 pub use list::{Bytes, List};
 pub use memory::Memory;
 pub use span::{Place, Span};
-pub use token::{Key, Mark, Punct, Shape, Token, Word};
+pub use token::{Key, MAX_WORD_BYTES, Mark, Punct, Shape, Token, Word};

@@ -6,6 +6,9 @@ use crate::span::Span;
 #[derive(Clone, Copy, Debug, PartialEq, Eq)]
 pub struct Word(pub u32);
 
+/// The most bytes of a word.
+pub const MAX_WORD_BYTES: usize = 1_023;
+
 /// A keyword (ISO/IEC 9899:1990, 6.1.1).
 #[derive(Clone, Copy, Debug, PartialEq, Eq)]
 pub enum Key {
