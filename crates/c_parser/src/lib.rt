@@ -1,0 +1,6 @@
+//! Reads the tokens of extended C into trees.
+#![tactic(auto)]
+
+mod cursor;
+mod expression;
+mod tokens;
