@@ -49,7 +49,7 @@ fn joined(alloc: Global, operator: Shape, left: Exp, right: Exp) -> Result<Exp, 
 
 /// What reads an expression with `depth` levels left. What lies a level deeper is read by the function value.
 #[derive(Clone, Copy)]
-struct Grammar<F> {
+pub struct Grammar<F> {
     alloc: Global,
     depth: usize,
     context: Context,
