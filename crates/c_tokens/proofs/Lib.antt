@@ -1,1 +1,3 @@
 mod Examples
+pub mod Texts
+pub mod Lines

@@ -1,3 +1,5 @@
 pub mod Bytes
 pub mod Spelling
 pub mod Tokens
+pub mod Kinds
+pub mod Places
