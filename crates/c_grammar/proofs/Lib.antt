@@ -7,3 +7,6 @@ pub mod Deeper
 pub mod Advance
 pub mod Live
 pub mod Chain
+pub mod Complete
+pub mod Items
+pub mod Derives
