@@ -58,7 +58,8 @@ impl<'a> Cursor<'a> {
     /// Takes the next token if it is one that is wanted.
     pub fn take_if(&mut self, is_wanted: bool) -> Result<(), Refusal>
         requires { is_wanted ≡ true → reader.kind self.old ≢ End }
-        ensures { reader.Reads (reader.pick (reader.only is_wanted) self.old) result self.new }
+        ensures tokens { self.new.tokens ≡ self.old.tokens }
+        ensures reads { reader.Reads (reader.pick (reader.only is_wanted) self.old) result self.new }
     {
         if is_wanted {
             self.advance();

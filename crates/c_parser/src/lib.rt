@@ -3,4 +3,5 @@
 
 mod cursor;
 mod expression;
+mod item;
 mod tokens;

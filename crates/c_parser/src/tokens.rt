@@ -2,10 +2,11 @@
 
 ghost use Rattle.std.specs.Prelude.{◌≡◌};
 ghost use Rattle.c_grammar.specs.Grammar as spec;
+ghost use Rattle.c_grammar.specs.Laws.{IsKnown};
 ghost use Rattle.c_grammar.specs.Reader as reader;
 
 use c_grammar::{Context, Refusal};
-use c_tokens::{Key, Mark, Punct, Shape, Word};
+use c_tokens::{Key, Mark, Punct, Shape, Word, Words};
 
 use crate::cursor::Cursor;
 
@@ -75,6 +76,17 @@ pub fn is_bind(shape: Shape) -> bool
     matches!(shape, Shape::Mark(Mark::Bind))
 }
 
+/// Whether the token is the word of the kind of expressions.
+pub fn is_kind(words: &Words, shape: Shape) -> bool
+    requires { IsKnown words.now shape }
+    ensures { result ≡ spec.is_kind words.now shape }
+{
+    match shape {
+        Shape::Word(word) => words.text(word) == b"exp".as_slice(),
+        _ => false,
+    }
+}
+
 /// Whether the token is this word.
 pub fn is_named(name: Word, shape: Shape) -> bool
     ensures { result ≡ spec.is_named name shape }
@@ -87,7 +99,8 @@ pub fn is_named(name: Word, shape: Shape) -> bool
 
 /// Takes a word.
 pub fn word(cursor: &mut Cursor<'_>) -> Result<Word, Refusal>
-    ensures { reader.Reads (reader.pick (spec.word_of (reader.kind cursor.old)) cursor.old) result cursor.new }
+    ensures tokens { cursor.new.tokens ≡ cursor.old.tokens }
+    ensures reads { reader.Reads (reader.pick (spec.word_of (reader.kind cursor.old)) cursor.old) result cursor.new }
 {
     match cursor.peek() {
         Shape::Word(word) => {
