@@ -10,3 +10,5 @@ pub mod Chain
 pub mod Complete
 pub mod Items
 pub mod Derives
+pub mod Raise
+pub mod Sound
