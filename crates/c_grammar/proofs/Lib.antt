@@ -15,3 +15,7 @@ pub mod Chain
 pub mod Complete
 pub mod Items
 pub mod Derives
+pub mod Raise
+pub mod Sound
+pub mod Unique
+pub mod SoundItems
