@@ -1,4 +1,5 @@
 pub mod Sets
+pub mod Words
 pub mod Loops
 pub mod Bounds
 pub mod Repeats
@@ -6,9 +7,15 @@ pub mod Local
 pub mod Deeper
 pub mod Advance
 pub mod Live
+pub mod Alive
+pub mod Dead
+pub mod Completed
+pub mod Answered
 pub mod Chain
 pub mod Complete
 pub mod Items
 pub mod Derives
 pub mod Raise
 pub mod Sound
+pub mod Unique
+pub mod SoundItems

@@ -294,11 +294,12 @@ module _ (d : ℕ) (w : List Token) (sound : (c : Context) (least i : ℕ) (x : 
       kept (λ l j. read d (turn c least l) j) (Partly (suc d) c least w i) (Sound (suc d) c least w i) (λ l p t q P. more c least i l p t q some P) (last c least i) _ a.value a.place x p
       (record { level = 17; place = F.place; placed = F.placed; spelled = F.spelled; tight = few; loose = omega (arith, binds_little (shape_at w F.place)); high = F.high }) a.second
 
-within : (d : ℕ) (w : List Token) (c : Context) (least i : ℕ) (x : Found) (p : Input) → 0 < least → least ≤ 17 → below d (Expression c least) (from w i) ≡ Ok (x, p) → Sound d c least w i x p
+-- what a call of an expression reads
+pub sound_below : (d : ℕ) (w : List Token) (c : Context) (least i : ℕ) (x : Found) (p : Input) → 0 < least → least ≤ 17 → below d (Expression c least) (from w i) ≡ Ok (x, p) → Sound d c least w i x p
 unfolding below
-within zero w c least i x p some few h = absurd (cc h)
-within (suc d) w c least i x p some few h = whole d w (within d w) c least i x p some few h
+sound_below zero w c least i x p some few h = absurd (cc h)
+sound_below (suc d) w c least i x p some few h = whole d w (sound_below d w) c least i x p some few h
 
 -- what is read as an expression is spelled as one
 pub sound : (d : ℕ) (w : List Token) (c : Context) (least i : ℕ) (x : Found) (p : Input) → 0 < least → least ≤ 17 → read d (expression c least) (from w i) ≡ Ok (x, p) → Sound (suc d) c least w i x p
-sound d w c least i x p some few h = whole d w (within d w) c least i x p some few h
+sound d w c least i x p some few h = whole d w (sound_below d w) c least i x p some few h
