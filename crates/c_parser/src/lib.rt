@@ -4,4 +4,8 @@
 mod cursor;
 mod expression;
 mod item;
+mod read;
 mod tokens;
+
+pub use c_grammar::Refusal;
+pub use read::{MAX_DEPTH, read_item};
