@@ -1,6 +1,6 @@
 //! A place in a list of tokens.
 
-ghost use Rattle.std.specs.Prelude.{◌≡◌, ◌≢◌, true};
+ghost use Rattle.std.specs.Prelude.{◌≡◌, ◌≢◌, ◌<◌, IfOk, IfErr, true};
 ghost use Rattle.c_grammar.specs.Reader as reader;
 ghost use Rattle.c_tokens.specs.declared.token.Shape.TheVariants.{End};
 
@@ -67,5 +67,18 @@ impl<'a> Cursor<'a> {
         } else {
             Err(Refusal::Syntax(self.place()))
         }
+    }
+
+    /// Takes the next token if a level is left below it.
+    pub fn enter(&mut self, depth: usize) -> Result<(), Refusal>
+        requires { reader.kind self.old ≢ End }
+        ensures taken { IfOk result (λ _. 0 < depth × self.new ≡ reader.next self.old) }
+        ensures refused { IfErr result (λ e. depth ≡ 0 × e ≡ Refusal.TooDeep self.old.at) }
+    {
+        if depth == 0 {
+            return Err(Refusal::TooDeep(self.place()));
+        }
+        self.advance();
+        Ok(())
     }
 }

@@ -107,10 +107,7 @@ impl<F: Fn(Global, Context, &mut Cursor<'_>, usize, usize) -> Result<(Exp, usize
         match self.context.callee() {
             None => Err(Refusal::Syntax(cursor.place())),
             Some(callee) => {
-                if self.depth == 0 {
-                    return Err(Refusal::TooDeep(cursor.place()));
-                }
-                cursor.advance();
+                cursor.enter(self.depth)?;
                 self.called(cursor, callee)
             }
         }
@@ -135,10 +132,7 @@ impl<F: Fn(Global, Context, &mut Cursor<'_>, usize, usize) -> Result<(Exp, usize
         match self.context.binder() {
             None => Err(Refusal::Syntax(cursor.place())),
             Some(binder) => {
-                if self.depth == 0 {
-                    return Err(Refusal::TooDeep(cursor.place()));
-                }
-                cursor.advance();
+                cursor.enter(self.depth)?;
                 self.placed(cursor, binder)
             }
         }
@@ -157,10 +151,7 @@ impl<F: Fn(Global, Context, &mut Cursor<'_>, usize, usize) -> Result<(Exp, usize
                 Ok((Exp::Int(number), 0))
             }
             Shape::Punct(Punct::LeftParen) => {
-                if self.depth == 0 {
-                    return Err(Refusal::TooDeep(cursor.place()));
-                }
-                cursor.advance();
+                cursor.enter(self.depth)?;
                 self.parenthesized(cursor)
             }
             Shape::Mark(Mark::Hole) => self.placeholder(cursor),

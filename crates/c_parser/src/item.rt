@@ -38,10 +38,7 @@ fn quote(alloc: Global, cursor: &mut Cursor<'_>, depth: usize, binder: Word) -> 
 {
     match cursor.peek() {
         Shape::Mark(Mark::QuoteParen) => {
-            if depth == 0 {
-                return Err(Refusal::TooDeep(cursor.place()));
-            }
-            cursor.advance();
+            cursor.enter(depth)?;
             quoted(alloc, cursor, depth, binder)
         }
         _ => Err(Refusal::Syntax(cursor.place())),
@@ -67,10 +64,7 @@ fn block(alloc: Global, cursor: &mut Cursor<'_>, depth: usize, binder: Word) -> 
 {
     match cursor.peek() {
         Shape::Punct(Punct::LeftBrace) => {
-            if depth == 0 {
-                return Err(Refusal::TooDeep(cursor.place()));
-            }
-            cursor.advance();
+            cursor.enter(depth)?;
             meta_block(alloc, cursor, depth - 1, binder)
         }
         _ => Err(Refusal::Syntax(cursor.place())),
