@@ -1,3 +1,6 @@
 mod Examples
 pub mod Texts
 pub mod Lines
+pub mod Longest
+pub mod Tables
+pub mod Reaches
