@@ -6,7 +6,7 @@ use Rattle.c_trees.specs.declared.tree.Item.{Item}
 use Rattle.c_grammar.specs.declared.refusal.Refusal.{Refusal}
 use Rattle.c_grammar.specs.declared.refusal.Refusal.TheVariants.{Memory, Syntax, TooDeep}
 use Rattle.c_grammar.specs.Words.{AreDistinct}
-use Rattle.c_grammar.specs.Reader.{Input, Outcome}
+use Rattle.c_grammar.specs.Reader.{Input}
 use Rattle.c_grammar.specs.Grammar.{read, an_item}
 use Rattle.c_grammar.specs.Spells.{SpellsItem}
 use Rattle.c_grammar.specs.Laws.{AreKnown, IsFirstDead, IsTooDeep}

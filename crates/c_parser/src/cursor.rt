@@ -4,10 +4,9 @@ ghost use Rattle.std.specs.Prelude.{◌≡◌, ◌≢◌, ◌<◌, IfOk, IfErr, 
 ghost use Rattle.c_grammar.specs.Reader as reader;
 ghost use Rattle.c_tokens.specs.declared.token.Shape.TheVariants.{End};
 
-use std::marker::Model;
-
 use c_grammar::Refusal;
 use c_tokens::{Shape, Token};
+use std::marker::Model;
 
 /// Tokens, and the place of the next one. After the last token it shows the end of the source.
 #[derive(Drop)]

@@ -8,15 +8,13 @@ ghost use Rattle.c_grammar.specs.Reader.{Reads};
 ghost use Rattle.c_grammar.specs.Words as words;
 ghost use Rattle.c_parser.specs.Nests.{Nests};
 
-use std::alloc::{AllocError, Global};
-
+use crate::cursor::Cursor;
+use crate::tokens::{is_closing, is_named, is_opening};
 use c_grammar::{Context, Refusal};
 use c_tokens::{Mark, Punct, Shape, Word};
 use c_trees::{BinaryOp, Exp};
 use sqlite_items::Boxed;
-
-use crate::cursor::Cursor;
-use crate::tokens::{is_closing, is_named, is_opening};
+use std::alloc::{AllocError, Global};
 
 /// How tightly an operator binds, and 0 for any other token.
 fn binds(shape: Shape) -> usize
@@ -56,9 +54,16 @@ pub struct Grammar<F> {
     expression: F,
 }
 
-impl<F: Fn(Global, Context, &mut Cursor<'_>, usize, usize) -> Result<(Exp, usize), Refusal>> Grammar<F> {
+impl<
+    F: Fn(Global, Context, &mut Cursor<'_>, usize, usize) -> Result<(Exp, usize), Refusal>,
+> Grammar<F> {
     #[tactic(auto, using(c_grammar::proofs::Chain::levels))]
-    fn below(&self, cursor: &mut Cursor<'_>, context: Context, least: usize) -> Result<(Exp, usize), Refusal>
+    fn below(
+        &self,
+        cursor: &mut Cursor<'_>,
+        context: Context,
+        least: usize,
+    ) -> Result<(Exp, usize), Refusal>
         requires nests { Nests self.now.depth (F.pre self.now.expression) (F.post self.now.expression) }
         requires binary { 0 < least }
         ensures reads { Reads (read self.now.depth (reader.Call (reader.Expression context least)) cursor.old) result cursor.new }
@@ -90,7 +95,10 @@ impl<F: Fn(Global, Context, &mut Cursor<'_>, usize, usize) -> Result<(Exp, usize
         cursor.take_if(is_opening(cursor.peek()))?;
         let argument = self.below(cursor, Context::InArgument(name), 2)?;
         cursor.take_if(is_closing(cursor.peek()))?;
-        Ok((Exp::Call(Boxed::new(self.alloc, argument.0)?), argument.1 + 1))
+        Ok((
+            Exp::Call(Boxed::new(self.alloc, argument.0)?),
+            argument.1 + 1,
+        ))
     }
 
     /// An expression that begins with a word.
@@ -179,7 +187,12 @@ impl<F: Fn(Global, Context, &mut Cursor<'_>, usize, usize) -> Result<(Exp, usize
 
     /// The rest of a chain of operators that bind as tightly as `least`.
     #[tactic(auto, using(c_grammar::proofs::Chain::turns))]
-    fn climb(&self, cursor: &mut Cursor<'_>, least: usize, first: (Exp, usize)) -> Result<(Exp, usize), Refusal>
+    fn climb(
+        &self,
+        cursor: &mut Cursor<'_>,
+        least: usize,
+        first: (Exp, usize),
+    ) -> Result<(Exp, usize), Refusal>
         requires binary { 0 < least }
         requires high { first.1 ≤ self.now.depth }
         requires nests { Nests self.now.depth (F.pre self.now.expression) (F.post self.now.expression) }

@@ -7,22 +7,25 @@ ghost use Rattle.c_grammar.specs.Laws.{AreKnown};
 ghost use Rattle.c_grammar.specs.Reader as reader;
 ghost use Rattle.c_grammar.specs.Reader.{Reads};
 
-use std::alloc::Global;
-
-use c_grammar::{Context, Refusal};
-use c_tokens::{Key, Mark, Punct, Shape, Word, Words};
-use c_trees::{Declaration, Exp, First, Item};
-
 use crate::cursor::Cursor;
 use crate::expression::expression;
 use crate::tokens::{
     identifier, is_bind, is_closing, is_colon, is_equal, is_kind, is_opening, is_pattern_close,
     is_pattern_open, is_result, is_return, is_right_brace, is_semicolon, word,
 };
+use c_grammar::{Context, Refusal};
+use c_tokens::{Key, Mark, Punct, Shape, Word, Words};
+use c_trees::{Declaration, Exp, First, Item};
+use std::alloc::Global;
 
 /// What follows the mark of a template.
 #[tactic(auto, using(c_grammar::proofs::Chain::levels), unfolding(c_grammar::specs::Grammar::quoted))]
-fn quoted(alloc: Global, cursor: &mut Cursor<'_>, depth: usize, binder: Word) -> Result<Exp, Refusal>
+fn quoted(
+    alloc: Global,
+    cursor: &mut Cursor<'_>,
+    depth: usize,
+    binder: Word,
+) -> Result<Exp, Refusal>
     requires room { 0 < depth }
     ensures { Reads (read depth (spec.quoted binder) cursor.old) result cursor.new }
 {
@@ -47,7 +50,12 @@ fn quote(alloc: Global, cursor: &mut Cursor<'_>, depth: usize, binder: Word) -> 
 
 /// What follows the brace that begins the body of a macro.
 #[tactic(auto, unfolding(c_grammar::specs::Grammar::meta_block))]
-fn meta_block(alloc: Global, cursor: &mut Cursor<'_>, depth: usize, binder: Word) -> Result<Exp, Refusal>
+fn meta_block(
+    alloc: Global,
+    cursor: &mut Cursor<'_>,
+    depth: usize,
+    binder: Word,
+) -> Result<Exp, Refusal>
     ensures { Reads (read depth (spec.meta_block binder) cursor.old) result cursor.new }
 {
     cursor.take_if(is_return(cursor.peek()))?;
@@ -101,7 +109,12 @@ fn pattern(cursor: &mut Cursor<'_>, depth: usize, words: &Words) -> Result<Word,
 
 /// What follows `@syntax`.
 #[tactic(auto, unfolding(c_grammar::specs::Grammar::definition))]
-fn definition(alloc: Global, cursor: &mut Cursor<'_>, depth: usize, words: &Words) -> Result<Item, Refusal>
+fn definition(
+    alloc: Global,
+    cursor: &mut Cursor<'_>,
+    depth: usize,
+    words: &Words,
+) -> Result<Item, Refusal>
     requires known { AreKnown words.now cursor.old.tokens }
     ensures { Reads (read depth (spec.definition words.now) cursor.old) result cursor.new }
 {
@@ -118,7 +131,12 @@ fn definition(alloc: Global, cursor: &mut Cursor<'_>, depth: usize, words: &Word
 
 /// What follows `int`.
 #[tactic(auto, unfolding(c_grammar::specs::Grammar::declaration))]
-fn declaration(alloc: Global, cursor: &mut Cursor<'_>, depth: usize, first: Option<Word>) -> Result<Item, Refusal>
+fn declaration(
+    alloc: Global,
+    cursor: &mut Cursor<'_>,
+    depth: usize,
+    first: Option<Word>,
+) -> Result<Item, Refusal>
     ensures { Reads (read depth (spec.declaration first) cursor.old) result cursor.new }
 {
     let context = Context::InItem(first);

@@ -7,14 +7,12 @@ ghost use Rattle.c_grammar.specs.Spells.{SpellsItem};
 ghost use Rattle.c_parser.specs.Answers.{Gives};
 ghost use Rattle.c_parser.specs.Answers as answers;
 
-use std::alloc::Global;
-
+use crate::cursor::Cursor;
+use crate::item::item;
 use c_grammar::Refusal;
 use c_tokens::{Token, Word, Words};
 use c_trees::{First, Item};
-
-use crate::cursor::Cursor;
-use crate::item::item;
+use std::alloc::Global;
 
 /// The greatest depth of an item that is read.
 pub const MAX_DEPTH: usize = 1000;

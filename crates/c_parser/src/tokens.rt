@@ -5,10 +5,9 @@ ghost use Rattle.c_grammar.specs.Grammar as spec;
 ghost use Rattle.c_grammar.specs.Laws.{IsKnown};
 ghost use Rattle.c_grammar.specs.Reader as reader;
 
+use crate::cursor::Cursor;
 use c_grammar::{Context, Refusal};
 use c_tokens::{Key, Mark, Punct, Shape, Word, Words};
-
-use crate::cursor::Cursor;
 
 pub fn is_opening(shape: Shape) -> bool
     ensures { result ≡ spec.is_opening shape }
