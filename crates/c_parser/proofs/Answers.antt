@@ -14,7 +14,7 @@ use Rattle.c_grammar.proofs.Local.{from}
 use Rattle.c_grammar.proofs.Loops.{same_answer, same_place}
 use Rattle.c_grammar.proofs.Items.{item_read}
 use Rattle.c_grammar.proofs.SoundItems.{sound_item}
-use Rattle.c_grammar.proofs.Answered.{first_dead, deep}
+use Rattle.c_grammar.proofs.Answered.{first_dead, only_deep}
 
 abbrev pub both : Item → ℕ → Item × ℕ
 both t k = (t, k)
@@ -38,9 +38,6 @@ module _ (d : ℕ) (names : List (List ℕ)) (m : Option Word) (w : List Token) 
   only_memory (Syntax k) h u j reads S le = let x = sym (reads (λ x. absurd cc)) ∙ item_read w d names m h u i j S le in absurd cc
   only_memory (TooDeep k) h u j reads S le = let x = sym (reads (λ x. absurd cc)) ∙ item_read w d names m h u i j S le in absurd cc
 
-sound : (d : ℕ) (w : List Token) (names : List (List ℕ)) (m : Option Word) (t : Item) (i j : ℕ) → read d (an_item names m) (from w i) ≡ Ok (t, from w j) → SpellsItem d w names m t i j
-sound d w names m t i j e = spelled d names m w i t (from w j) e
-
 pub same_refusal : {A : Type 0} (r : Result A Refusal) (x y z : Refusal) → r ≡ Err x → x ≡ y → r ≡ Err z → y ≡ z
 same_refusal r x y z e h is = cc
 
@@ -50,7 +47,7 @@ same_start d names n m s i e h = rw (e, h) refl
 
 module _ (d : ℕ) (names : List (List ℕ)) (m : Option Word) (w : List Token) (i k : ℕ) (known : AreKnown names w) (distinct : AreDistinct names) where
   pub dead : (e : Refusal) → (e ≢ Memory → read d (an_item names m) (from w i) ≡ Err e) → e ≡ Syntax k → IsFirstDead names m w i k
-  dead e reads is = first_dead sound d names m w i k known distinct (reads (λ x. absurd cc) ∙ ap Err is)
+  dead e reads is = first_dead d names m w i k known distinct (reads (λ x. absurd cc) ∙ ap Err is)
 
   pub too_deep : (e : Refusal) → (e ≢ Memory → read d (an_item names m) (from w i) ≡ Err e) → e ≡ TooDeep k → IsTooDeep d names m w i k
-  too_deep e reads is = deep sound d names m w i k known distinct (reads (λ x. absurd cc) ∙ ap Err is)
+  too_deep e reads is = only_deep d names m w i k known distinct (reads (λ x. absurd cc) ∙ ap Err is)

@@ -91,6 +91,20 @@ IsStop names w Memory = Unit {0}
 
 -- ---- parts of the code
 
+-- one item was read at a place and taken in
+pub record IsTaken (names : List (List ℕ)) (w : List Token) (first : Option First) (written : List Declaration) (at : ℕ)
+    (new_first : Option First) (new_written : List Declaration) (after : ℕ) : Type 0 where
+  pub item : Item
+  pub read : SpellsItem limit w names (name_of first) item at after
+  pub first_is : new_first ≡ defined first item
+  pub written_is : new_written ≡ written ++ meaning_of first item
+
+-- why the next item is refused
+abbrev pub IsRefusal : List (List ℕ) → Option Word → List Token → ℕ → Stop → Type 0
+IsRefusal names m w at (Syntax span) = (k : ℕ) × (IsFirstDead names m w at k × (span ≡ (token_at w k).span))
+IsRefusal names m w at (TooDeep span) = (k : ℕ) × (IsTooDeep limit names m w at k × (span ≡ (token_at w k).span))
+IsRefusal names m w at Memory = Unit {0}
+
 abbrev pub stop_at : List Token → Refusal → Stop
 stop_at w (refusal.Syntax k) = Syntax (token_at w k).span
 stop_at w (refusal.TooDeep k) = TooDeep (token_at w k).span

@@ -1,6 +1,6 @@
 //! Why the items were not all read.
 
-use c_tokens::Span;
+use c_tokens::{Memory, Span};
 
 /// Why a source was refused, with the place of the token that shows it.
 #[derive(Clone, Copy, Debug, PartialEq, Eq)]
@@ -10,4 +10,15 @@ pub enum Stop {
     /// a token that each such item has too deep
     TooDeep(Span),
     Memory,
+}
+
+impl From<Memory> for Stop {
+    ghost use Rattle.std.specs.Prelude.{◌≡◌};
+    ghost use Rattle.expander.specs.declared.stop.Stop.TheVariants as variant;
+
+    ghost from_gives = { λ _ e. e ≡ variant.Memory };
+
+    fn from(_: Memory) -> Stop {
+        Stop::Memory
+    }
 }

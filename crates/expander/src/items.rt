@@ -1,20 +1,18 @@
 //! The fold over the items.
 
-ghost use Rattle.std.specs.Prelude.{◌≡◌, ◌≢◌, ◌<◌, ◌++◌, ◌∷◌, [], ◌↔◌, IfOk, IfErr, IsTrue, OnErr, length, Ok};
+ghost use Rattle.std.specs.Prelude.{◌≡◌, ◌++◌, ◌↔◌, IfOk, IfErr, IsTrue, OnOk};
 ghost use Rattle.c_tokens.specs.declared.token.Shape.TheVariants.{End};
 ghost use Rattle.c_grammar.specs.Reader.{shape_at, token_at};
 ghost use Rattle.c_grammar.specs.Laws.{AreKnown};
-ghost use Rattle.expander.specs.Meaning.{IsTranslation, IsStop, defined, meaning_of, value_seen, stop_at};
+ghost use Rattle.expander.specs.Meaning.{IsTranslation, IsStop, IsTaken, IsRefusal, name_of, defined, meaning_of, value_seen, stop_at};
 
-use std::alloc::Global;
-
+use crate::stop::Stop;
 use c_parser::{Refusal, read_item};
 use c_tokens::{Memory, Shape, Span, Token, Words};
 use c_trees::{Declaration, First, Item};
 use sqlite_items::Items;
+use std::alloc::Global;
 use templates::expand;
-
-use crate::stop::Stop;
 
 /// The declarations that all items of the tokens stand for.
 pub fn feed(alloc: Global, tokens: &[Token], words: &Words) -> Result<Items<Declaration>, Stop>
@@ -26,17 +24,31 @@ pub fn feed(alloc: Global, tokens: &[Token], words: &Words) -> Result<Items<Decl
     let mut written = Items::new(alloc);
     let mut at = 0;
     'items: while !is_end(tokens, at) {
-        match read_item(alloc, tokens, at, first.as_ref(), words) {
-            Ok((item, after)) => {
-                if take(alloc, item, &mut first, &mut written).is_err() {
-                    return Err(Stop::Memory);
-                }
-                at = after;
-            }
-            Err(refusal) => return Err(stop(tokens, refusal)),
-        }
+        at = take_next(alloc, tokens, at, words, &mut first, &mut written)?;
     }
     Ok(written)
+}
+
+/// Reads the next item and takes it in. The answer is the place after it.
+fn take_next(
+    alloc: Global,
+    tokens: &[Token],
+    at: usize,
+    words: &Words,
+    first: &mut Option<First>,
+    written: &mut Items<Declaration>,
+) -> Result<usize, Stop>
+    requires known { AreKnown words.now tokens.now }
+    ensures taken { IfOk result (λ after. IsTaken words.now tokens.now first.old written.old at first.new written.new after) }
+    ensures stopped { IfErr result (λ stop. IsRefusal words.now (name_of first.old) tokens.now at stop) }
+{
+    match read_item(alloc, tokens, at, first.as_ref(), words) {
+        Ok((item, after)) => {
+            take(alloc, item, first, written)?;
+            Ok(after)
+        }
+        Err(refusal) => Err(stop(tokens, refusal)),
+    }
 }
 
 /// Whether no item is left.
@@ -56,8 +68,8 @@ fn take(
     first: &mut Option<First>,
     written: &mut Items<Declaration>,
 ) -> Result<(), Memory>
-    ensures first { result ≡ Ok () → first.new ≡ defined first.old item }
-    ensures written { result ≡ Ok () → written.new ≡ written.old ++ meaning_of first.old item }
+    ensures first { OnOk result (first.new ≡ defined first.old item) }
+    ensures written { OnOk result (written.new ≡ written.old ++ meaning_of first.old item) }
 {
     match item {
         Item::Definition(definition) => {
