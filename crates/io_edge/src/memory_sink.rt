@@ -67,6 +67,7 @@ impl MemorySink {
         })
     }
 
+    /// All that was taken so far.
     pub fn held(&self) -> &[u8]
         ensures { result.now ≡ self.now.bytes }
     {

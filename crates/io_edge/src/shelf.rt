@@ -1,6 +1,6 @@
 //! Shelves: files that are picked by name and read in pieces.
 
-ghost use Rattle.std.specs.Prelude.{◌≡◌, ℕ, Bool, Option, Some, None, List, ◌+◌, ◌≤◌, ◌<◌, ◌↔◌, ◌++◌, [], length, take, IsTrue, IsSome, IsSomeAnd, IfSome};
+ghost use Rattle.std.specs.Prelude.{◌≡◌, ℕ, Bool, Option, Some, None, List, ◌≤◌, ◌<◌, ◌↔◌, ◌++◌, [], length, take, IsTrue, IsSome, IsSomeAnd, IfSome};
 ghost use Rattle.io_edge.specs.Faults.{Rose};
 ghost use Rattle.io_edge.specs.Files.{Files, file_at};
 ghost use Rattle.io_edge.specs.Picked.{OnReady, OnAbsent, OnPickFailed};

@@ -37,6 +37,7 @@ impl<R: Files + Input> Model for StdShelf<R> {
 }
 
 impl<R: Files + Input> StdShelf<R> {
+    /// A shelf over the files and the input of this runtime, with nothing picked.
     pub fn new(rt: R) -> StdShelf<R>
         ensures { result ≡ record { picked = false; faults = 0 } }
     {
