@@ -1,5 +1,6 @@
-use Rattle.std.specs.Prelude.{◌≡◌, ◌≢◌, ℕ, ◌<◌, ◌≤◌, List, [], ◌∷◌, length, take, drop, slice_index_or, Option, Some, None, unwrap_or, if◌then◌else◌}
+use Rattle.std.specs.Prelude.{◌≡◌, ◌≢◌, ℕ, ◌<◌, ◌≤◌, List, [], ◌∷◌, length, take, drop, Contains, slice_index_or, Option, Some, None, unwrap_or, if◌then◌else◌}
 use Rattle.std.specs.Str.{bytes_eq}
+use Rattle.io_edge.specs.Faults.{one_more}
 use Rattle.io_edge.specs.declared.files.File.{File}
 use Rattle.io_edge.specs.declared.files.Reading.{Reading}
 
@@ -21,6 +22,18 @@ file_named (file ∷ files) name = if bytes_eq file.name name then Some file.byt
 -- the bytes left of the picked file, none where no file is picked
 abbrev pub bytes_left : ShelfState → List ℕ
 bytes_left shelf = unwrap_or shelf.left []
+
+-- the next call has the number of one that fails
+abbrev pub FailsNext : ShelfState → Type 0
+FailsNext shelf = Contains shelf.failing (one_more shelf.calls)
+
+-- the shelf after a call that left these bytes of the picked file
+abbrev pub after_call : ShelfState → Option (List ℕ) → ShelfState
+after_call shelf left = record shelf { left = left; calls = one_more shelf.calls }
+
+-- the same after a call that failed
+abbrev pub after_fault : ShelfState → Option (List ℕ) → ShelfState
+after_fault shelf left = record shelf { left = left; calls = one_more shelf.calls; faults = one_more shelf.faults }
 
 -- The new files have these bytes under the name, and are otherwise the old ones.
 pub record Puts (old : List File) (name bytes : List ℕ) (new : List File) : Type 0 where

@@ -1,10 +1,9 @@
 //! A shelf in memory, of which some calls fail.
 
-ghost use Rattle.std.specs.Prelude.{◌≡◌, ◌≤◌, ◌<◌, ◌↔◌, [], ◌++◌, Some, None, is_some, length, take, drop, min, Contains, OnOk, OnErr, IsSome};
-ghost use Rattle.io_edge.specs.Faults.{one_more};
+ghost use Rattle.std.specs.Prelude.{◌≡◌, ◌≤◌, ◌<◌, ◌↔◌, [], ◌++◌, Some, None, is_some, length, take, drop, min, OnOk, OnErr, IsSome};
 ghost use Rattle.io_edge.specs.Picked.{OnReady, OnAbsent, OnPickFailed};
 ghost use Rattle.io_edge.specs.Got.{IfBytes, OnEnd, OnReadFailed};
-ghost use Rattle.io_edge.specs.MemoryShelf.{file_named, bytes_left, Puts};
+ghost use Rattle.io_edge.specs.MemoryShelf.{file_named, bytes_left, FailsNext, after_call, after_fault, Puts};
 
 use crate::calls::Calls;
 use crate::files::{File, Reading, copy_front, find_file, put_file};
@@ -31,7 +30,14 @@ impl Model for MemoryShelf {
 
     ghost use Rattle.std.specs.Prelude.{◌≤◌};
 
-    ghost view = { λ shelf. record { files = shelf.files.items; left = left_of shelf.files.items shelf.reading; most = shelf.most; failing = shelf.calls.failing; calls = shelf.calls.made; faults = shelf.calls.faults } };
+    ghost view = { λ shelf. record {
+      files = shelf.files.items;
+      left = left_of shelf.files.items shelf.reading;
+      most = shelf.most;
+      failing = shelf.calls.failing;
+      calls = shelf.calls.made;
+      faults = shelf.calls.faults;
+    } };
 
     ghost invariant = { λ shelf. (1 ≤ shelf.most) × IsReadingOf shelf.files.items shelf.reading };
 }
@@ -41,7 +47,14 @@ impl MemoryShelf {
     /// `read` are numbered together, and those of the numbers in `failing` fail.
     pub fn new(alloc: Global, most: usize, failing: List<u64>) -> MemoryShelf
         requires { 1 ≤ most }
-        ensures { result ≡ record { files = []; left = None; most = most; failing = failing; calls = 0; faults = 0 } }
+        ensures { result ≡ record {
+          files = [];
+          left = None;
+          most = most;
+          failing = failing;
+          calls = 0;
+          faults = 0;
+        } }
     {
         MemoryShelf {
             alloc,
@@ -74,12 +87,13 @@ impl Shelf for MemoryShelf {
     ghost faults = { λ shelf. shelf.faults };
 
     fn pick(&mut self, name: &str) -> Picked
-        ensures fails { (result ≡ Picked.Failed) ↔ Contains self.old.failing (one_more self.old.calls) }
-        ensures failed { OnPickFailed result (self.new ≡ record self.old { left = None; calls = one_more self.old.calls; faults = one_more self.old.faults }) }
+        ensures fails { (result ≡ Picked.Failed) ↔ FailsNext self.old }
+        ensures failed { OnPickFailed result (self.new ≡ after_fault self.old None) }
         ensures there { OnReady result (IsSome (file_named self.old.files name.now)) }
-        ensures ready { OnReady result (self.new ≡ record self.old { left = file_named self.old.files name.now; calls = one_more self.old.calls }) }
+        ensures ready { OnReady result (
+            self.new ≡ after_call self.old (file_named self.old.files name.now)) }
         ensures not_there { OnAbsent result (file_named self.old.files name.now ≡ None) }
-        ensures absent { OnAbsent result (self.new ≡ record self.old { left = None; calls = one_more self.old.calls }) }
+        ensures absent { OnAbsent result (self.new ≡ after_call self.old None) }
 
         // A count that stands in 64 bits doesn't fall.
         ensures faults { self.old.faults ≤ self.new.faults }
@@ -102,18 +116,21 @@ impl Shelf for MemoryShelf {
         requires picked { IsSome self.old.left }
         requires room { 0 < length buf.old }
 
-        ensures fails { (result ≡ Got.Failed) ↔ Contains self.old.failing (one_more self.old.calls) }
-        ensures failed { OnReadFailed result (self.new ≡ record self.old { calls = one_more self.old.calls; faults = one_more self.old.faults }) }
+        ensures fails { (result ≡ Got.Failed) ↔ FailsNext self.old }
+        ensures failed { OnReadFailed result (self.new ≡ after_fault self.old self.old.left) }
         ensures failed_buf { OnReadFailed result (buf.new ≡ buf.old) }
 
         ensures no_more { OnEnd result (self.old.left ≡ Some []) }
-        ensures end { OnEnd result (self.new ≡ record self.old { calls = one_more self.old.calls }) }
+        ensures end { OnEnd result (self.new ≡ after_call self.old self.old.left) }
         ensures end_buf { OnEnd result (buf.new ≡ buf.old) }
 
         ensures some { IfBytes result (λ n. 1 ≤ n) }
-        ensures count { IfBytes result (λ n. n ≡ min (min (length (bytes_left self.old)) (length buf.old)) self.old.most) }
-        ensures bytes { IfBytes result (λ n. self.new ≡ record self.old { left = Some (drop n (bytes_left self.old)); calls = one_more self.old.calls }) }
-        ensures bytes_buf { IfBytes result (λ n. buf.new ≡ take n (bytes_left self.old) ++ drop n buf.old) }
+        ensures count { IfBytes result (λ n.
+            n ≡ min (min (length (bytes_left self.old)) (length buf.old)) self.old.most) }
+        ensures bytes { IfBytes result (λ n.
+            self.new ≡ after_call self.old (Some (drop n (bytes_left self.old)))) }
+        ensures bytes_buf { IfBytes result (λ n.
+            buf.new ≡ take n (bytes_left self.old) ++ drop n buf.old) }
 
         ensures faults { self.old.faults ≤ self.new.faults }
     {

@@ -1,8 +1,8 @@
 //! A sink in memory, of which some calls fail.
 
-ghost use Rattle.std.specs.Prelude.{◌≡◌, ◌≤◌, ◌<◌, ◌-◌, ◌+◌, ◌⊎◌, ◌↔◌, [], ◌++◌, Some, length, take, min, Contains, IfOk};
-ghost use Rattle.io_edge.specs.Faults.{one_more, Rose};
-ghost use Rattle.io_edge.specs.Put.{IfTook, OnSendFailed, Appends};
+ghost use Rattle.std.specs.Prelude.{◌≡◌, ◌≤◌, ◌<◌, ◌↔◌, [], Some, length, take, min, IfOk};
+ghost use Rattle.io_edge.specs.MemorySink.{FailsNext, room_left, after_send, after_fault};
+ghost use Rattle.io_edge.specs.Put.{IfTook, OnSendFailed};
 
 use crate::calls::Calls;
 use crate::sink::{Put, Sink};
@@ -27,9 +27,17 @@ impl Model for MemorySink {
     ghost use Rattle.std.specs.Prelude.{◌≤◌, vec_len};
     ghost use Rattle.std.specs.Vec.{vec_capacity};
 
-    ghost view = { λ sink. record { bytes = sink.bytes.items; room = sink.room; most = sink.most; failing = sink.calls.failing; calls = sink.calls.made; faults = sink.calls.faults } };
+    ghost view = { λ sink. record {
+      bytes = sink.bytes.items;
+      room = sink.room;
+      most = sink.most;
+      failing = sink.calls.failing;
+      calls = sink.calls.made;
+      faults = sink.calls.faults;
+    } };
 
-    ghost invariant = { λ sink. (1 ≤ sink.most) × (vec_len sink.bytes ≤ sink.room) × (sink.room ≤ vec_capacity sink.bytes) };
+    ghost invariant = { λ sink. (1 ≤ sink.most)
+        × (vec_len sink.bytes ≤ sink.room) × (sink.room ≤ vec_capacity sink.bytes) };
 }
 
 impl MemorySink {
@@ -42,7 +50,14 @@ impl MemorySink {
         failing: List<u64>,
     ) -> Result<MemorySink, Memory>
         requires { 1 ≤ most }
-        ensures { IfOk result (λ sink. sink ≡ record { bytes = []; room = room; most = most; failing = failing; calls = 0; faults = 0 }) }
+        ensures { IfOk result (λ sink. sink ≡ record {
+          bytes = [];
+          room = room;
+          most = most;
+          failing = failing;
+          calls = 0;
+          faults = 0;
+        }) }
     {
         Ok(MemorySink {
             bytes: Vec::with_capacity(alloc, room)?,
@@ -52,6 +67,7 @@ impl MemorySink {
         })
     }
 
+    /// All that was taken so far.
     pub fn held(&self) -> &[u8]
         ensures { result.now ≡ self.now.bytes }
     {
@@ -66,10 +82,11 @@ impl Sink for MemorySink {
 
     fn send(&mut self, bytes: &[u8]) -> Put
         requires { 0 < length bytes.now }
-        ensures fails { (result ≡ Put.Failed) ↔ (Contains self.old.failing (one_more self.old.calls) ⊎ (length self.old.bytes ≡ self.old.room)) }
-        ensures failed { OnSendFailed result (self.new ≡ record self.old { calls = one_more self.old.calls; faults = one_more self.old.faults }) }
-        ensures count { IfTook result (λ n. n ≡ min (min (length bytes.now) self.old.most) (self.old.room - length self.old.bytes)) }
-        ensures took { IfTook result (λ n. self.new ≡ record self.old { bytes = self.old.bytes ++ take n bytes.now; calls = one_more self.old.calls }) }
+        ensures fails { (result ≡ Put.Failed) ↔ FailsNext self.old }
+        ensures failed { OnSendFailed result (self.new ≡ after_fault self.old) }
+        ensures count { IfTook result (λ n.
+            n ≡ min (min (length bytes.now) self.old.most) (room_left self.old)) }
+        ensures took { IfTook result (λ n. self.new ≡ after_send self.old (take n bytes.now)) }
 
         // A count that stands in 64 bits doesn't fall, and each send that is taken takes a byte.
         ensures faults { self.old.faults ≤ self.new.faults }

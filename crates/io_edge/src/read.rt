@@ -6,7 +6,7 @@ ghost use Rattle.io_edge.specs.Files.{file_at};
 ghost use Rattle.io_edge.specs.Source.{IsAnswerFor};
 
 use crate::shelf::{Got, Picked, Shelf};
-use std::alloc::{AllocError, Global};
+use std::alloc::Global;
 use thiserror::Error;
 
 /// Why a file was not read.
@@ -32,7 +32,7 @@ pub fn read_source<F: Shelf>(
     name: &str,
     most: usize,
 ) -> Result<Vec<u8>, ReadStop>
-    // Where the shelf tells its files, each answer but ReadFault comes exactly where it is due.
+    // Where the shelf tells its files, the answer fits what it tells of the file of this name.
     ensures answer { IfSome (file_at (F.files shelf.old) name.now) (λ file. IsAnswerFor file most result) }
     ensures within { IfOk result (λ bytes. length bytes.items ≤ most) }
     ensures absent { IsErrOf result ReadStop.Absent → IsSome (F.files shelf.old) }

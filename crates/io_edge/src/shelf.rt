@@ -1,6 +1,6 @@
 //! Shelves: files that are picked by name and read in pieces.
 
-ghost use Rattle.std.specs.Prelude.{◌≡◌, ℕ, Bool, Option, Some, None, List, ◌+◌, ◌≤◌, ◌<◌, ◌↔◌, ◌++◌, [], length, take, IsTrue, IsSome, IsSomeAnd, IfSome};
+ghost use Rattle.std.specs.Prelude.{◌≡◌, ℕ, Bool, Option, Some, None, List, ◌≤◌, ◌<◌, ◌↔◌, ◌++◌, [], length, take, IsTrue, IsSome, IsSomeAnd, IfSome};
 ghost use Rattle.io_edge.specs.Faults.{Rose};
 ghost use Rattle.io_edge.specs.Files.{Files, file_at};
 ghost use Rattle.io_edge.specs.Picked.{OnReady, OnAbsent, OnPickFailed};
@@ -43,9 +43,11 @@ pub trait Shelf {
         ensures picked { IsTrue (picked self.new) ↔ (result ≡ Picked.Ready) }
 
         // Where the files are told, Ready says that the named one is there, and that all of it is left.
-        ensures ready { OnReady result (IfSome (file_at (files self.old) name.now) (λ file. IsSome file × (left self.new ≡ file))) }
+        ensures ready { OnReady result (IfSome (file_at (files self.old) name.now) (λ file.
+            IsSome file × (left self.new ≡ file))) }
         ensures told { OnReady result (IsSome (left self.old) → IsSome (left self.new)) }
-        ensures absent { OnAbsent result ((file_at (files self.old) name.now ≡ Some None) × (faults self.new ≡ faults self.old)) }
+        ensures absent { OnAbsent result (
+            (file_at (files self.old) name.now ≡ Some None) × (faults self.new ≡ faults self.old)) }
         ensures failed { OnPickFailed result (Rose (faults self.old) (faults self.new)) };
 
     /// Reads the next bytes of the picked file to the front of the buffer.
@@ -62,7 +64,8 @@ pub trait Shelf {
         // The bytes left before are those that were read and then those left now.
         ensures bytes { IfBytes result (λ n. IfSome (left self.old) (λ bytes.
             IsSomeAnd (left self.new) (λ rest. bytes ≡ take n buf.new ++ rest))) }
-        ensures end { OnEnd result (IfSome (left self.old) (λ bytes. (bytes ≡ []) × (left self.new ≡ Some []))) }
+        ensures end { OnEnd result (IfSome (left self.old) (λ bytes.
+            (bytes ≡ []) × (left self.new ≡ Some []))) }
         ensures failed { OnReadFailed result (Rose (faults self.old) (faults self.new)) }
         ensures unread { OnReadFailed result (IfSome (left self.old) (λ bytes. left self.new ≡ Some bytes)) };
 }

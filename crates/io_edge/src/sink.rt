@@ -1,6 +1,6 @@
 //! Sinks: where bytes are sent to.
 
-ghost use Rattle.std.specs.Prelude.{◌≡◌, ℕ, Option, Some, List, [], ◌+◌, ◌≤◌, ◌<◌, length, take};
+ghost use Rattle.std.specs.Prelude.{ℕ, Option, List, [], ◌≤◌, ◌<◌, length, take};
 ghost use Rattle.io_edge.specs.Faults.{Rose};
 ghost use Rattle.io_edge.specs.Put.{IfTook, OnSendFailed, Appends};
 

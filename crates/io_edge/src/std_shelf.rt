@@ -37,6 +37,7 @@ impl<R: Files + Input> Model for StdShelf<R> {
 }
 
 impl<R: Files + Input> StdShelf<R> {
+    /// A shelf over the files and the input of this runtime, with nothing picked.
     pub fn new(rt: R) -> StdShelf<R>
         ensures { result ≡ record { picked = false; faults = 0 } }
     {
@@ -60,7 +61,8 @@ impl<R: Files + Input + Drop> Shelf for StdShelf<R> {
     fn pick(&mut self, name: &str) -> Picked
         ensures present { result ≢ Picked.Absent }
         ensures ready { OnReady result (self.new ≡ record self.old { picked = true }) }
-        ensures failed { OnPickFailed result (self.new ≡ record { picked = false; faults = one_more self.old.faults }) }
+        ensures failed { OnPickFailed result (
+            self.new ≡ record { picked = false; faults = one_more self.old.faults }) }
         ensures faults { self.old.faults ≤ self.new.faults }
     {
         if name == "-" {
@@ -87,7 +89,8 @@ impl<R: Files + Input + Drop> Shelf for StdShelf<R> {
         ensures count { IfBytes result (λ n. (1 ≤ n) × (n ≤ length buf.old)) }
         ensures bytes { IfBytes result (λ n. self.new ≡ self.old) }
         ensures end { OnEnd result (self.new ≡ self.old) }
-        ensures failed { OnReadFailed result (self.new ≡ record self.old { faults = one_more self.old.faults }) }
+        ensures failed { OnReadFailed result (
+            self.new ≡ record self.old { faults = one_more self.old.faults }) }
         ensures faults { self.old.faults ≤ self.new.faults }
     {
         let count = match &mut self.source {

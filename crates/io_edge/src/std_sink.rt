@@ -25,6 +25,7 @@ impl<W> Model for StdSink<W> {
 }
 
 impl<W> StdSink<W> {
+    /// A sink that hands each piece to this writer.
     pub fn new(writer: W) -> StdSink<W>
         ensures { result ≡ 0 }
     {

@@ -1,9 +1,10 @@
 //! A shelf in memory that never fails.
 
-ghost use Rattle.std.specs.Prelude.{◌≡◌, ◌≢◌, ◌≤◌, ◌<◌, [], ◌++◌, Some, None, is_some, length, take, drop, min, unwrap_or, OnOk, OnErr, IsSome};
+ghost use Rattle.std.specs.Prelude.{◌≡◌, ◌≢◌, ◌≤◌, ◌<◌, [], ◌++◌, Some, None, is_some, length, take, drop, min, OnOk, OnErr, IsSome};
 ghost use Rattle.io_edge.specs.Picked.{OnReady, OnAbsent};
 ghost use Rattle.io_edge.specs.Got.{IfBytes, OnEnd};
 ghost use Rattle.io_edge.specs.MemoryShelf.{file_named, Puts};
+ghost use Rattle.io_edge.specs.SureShelf.{bytes_left};
 
 use crate::memory_shelf::MemoryShelf;
 use crate::shelf::{Got, Picked, Shelf};
@@ -24,7 +25,11 @@ impl Model for SureShelf {
 
     ghost use Rattle.std.specs.Prelude.{◌≡◌, []};
 
-    ghost view = { λ sure. record { files = sure.shelf.files; left = sure.shelf.left; most = sure.shelf.most } };
+    ghost view = { λ sure. record {
+      files = sure.shelf.files;
+      left = sure.shelf.left;
+      most = sure.shelf.most;
+    } };
 
     ghost invariant = { λ sure. sure.shelf.failing ≡ [] };
 }
@@ -78,9 +83,12 @@ impl Shelf for SureShelf {
         ensures end_buf { OnEnd result (buf.new ≡ buf.old) }
 
         ensures some { IfBytes result (λ n. 1 ≤ n) }
-        ensures count { IfBytes result (λ n. n ≡ min (min (length (unwrap_or self.old.left [])) (length buf.old)) self.old.most) }
-        ensures bytes { IfBytes result (λ n. self.new ≡ record self.old { left = Some (drop n (unwrap_or self.old.left [])) }) }
-        ensures bytes_buf { IfBytes result (λ n. buf.new ≡ take n (unwrap_or self.old.left []) ++ drop n buf.old) }
+        ensures count { IfBytes result (λ n.
+            n ≡ min (min (length (bytes_left self.old)) (length buf.old)) self.old.most) }
+        ensures bytes { IfBytes result (λ n.
+            self.new ≡ record self.old { left = Some (drop n (bytes_left self.old)) }) }
+        ensures bytes_buf { IfBytes result (λ n.
+            buf.new ≡ take n (bytes_left self.old) ++ drop n buf.old) }
     {
         self.shelf.read(buf)
     }

@@ -9,6 +9,7 @@ use crate::sink::{Put, Sink};
 pub struct SureSink;
 
 impl SureSink {
+    /// A sink that stands for any place where writing never fails.
     pub fn new() -> SureSink {
         SureSink
     }

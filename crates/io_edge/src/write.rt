@@ -1,6 +1,6 @@
 //! Sending bytes to a sink.
 
-ghost use Rattle.std.specs.Prelude.{◌≡◌, ◌≤◌, [], length, take, OnOk, OnErr, SomeIndex};
+ghost use Rattle.std.specs.Prelude.{◌≡◌, ◌≤◌, [], take, OnOk, OnErr, SomeIndex};
 ghost use Rattle.io_edge.specs.Faults.{Rose};
 ghost use Rattle.io_edge.specs.Put.{Appends};
 
