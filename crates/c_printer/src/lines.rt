@@ -5,9 +5,8 @@ ghost use Rattle.c_printer.specs.Layout as layout;
 ghost use Rattle.c_printer.specs.Texts.{text_of_shape};
 ghost use Rattle.c_grammar.specs.Words.{text_of};
 
-use c_tokens::{Memory, Punct, Shape, Word, Words};
-
 use crate::texts::{key_text, punct_text};
+use c_tokens::{Memory, Punct, Shape, Word, Words};
 
 /// The text of a number, which is empty where the table has none.
 fn word_text<'a>(words: &'a Words, word: Word) -> &'a [u8]

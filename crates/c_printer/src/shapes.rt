@@ -5,11 +5,10 @@ ghost use Rattle.c_trees.specs.Levels as levels;
 ghost use Rattle.c_grammar.specs.Spells as spells;
 ghost use Rattle.c_printer.specs.Spelled.{spelled, spelled_declaration};
 
-use std::alloc::Global;
-
 use c_grammar::needs_parens;
 use c_tokens::{Key, Memory, Punct, Shape};
 use c_trees::{BinaryOp, Declaration, Exp};
+use std::alloc::Global;
 
 fn sign_of(operator: BinaryOp) -> Shape
     ensures { result ≡ spells.sign_of operator }

@@ -10,9 +10,9 @@ loop-at-preserved c =
     let at = c.loop-at.at in
     let separated = c.separator.result.now in
     let added : c.extend_from_slice-in-loop-at.new.self.items ≡ (c.loop-at.text.items ++ c.shape_text.result.now) ++ separated
-        = c.in_ok-extend_from_slice-2.ensures.items ∙ ap (λ u. u ++ separated) c.in_ok-extend_from_slice.ensures.items in
+    = c.in_ok-extend_from_slice-2.ensures.items ∙ ap (λ u. u ++ separated) c.in_ok-extend_from_slice.ensures.items in
     ap (λ u. u ++ line names (drop (at + 1) shapes)) added
-        ∙ line_steps names shapes at _ c.loop-at.text.items _ separated _ c.loop-at-test.true c.shape_text.ensures c.separator.ensures c.loop-at.invariant
+    ∙ line_steps names shapes at _ c.loop-at.text.items _ separated _ c.loop-at-test.true c.shape_text.ensures c.separator.ensures c.loop-at.invariant
 
 pub returns : goal.returns
 returns c = line_finished c.args.words.now c.args.shapes.now c.loop-at.at _ _ (omega arith) c.loop-at.invariant

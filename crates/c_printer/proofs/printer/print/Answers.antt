@@ -1,6 +1,8 @@
-use Rattle.std.proofs.Common.{◌≡◌, ◌+◌, ◌++◌, drop, ap, ◌∙◌, arith}
+use Rattle.std.proofs.Common.{◌+◌, ◌++◌, drop, ap, sym, ◌∙◌, subst, arith}
 use Rattle.c_printer.specs.Spelled.{spelled_declaration}
 use Rattle.c_printer.specs.Layout.{line, layout}
+use Rattle.c_printer.specs.ReadBack.{IsReadBack}
+use Rattle.c_printer.proofs.ReadBack.{layout_is_read_back}
 use Rattle.c_printer.proofs.Steps.{layout_finished, layout_steps}
 use Rattle.c_printer.proofs.printer.print.Goals as goal
 
@@ -11,7 +13,9 @@ loop-item-preserved c =
     let at = c.loop-item.item-index in
     let written = ap (line names) (c.deref.ensures.value ∙ c.in_ok-shapes.ensures) ∙ ap (λ t. line names (spelled_declaration t)) c.item-item.is in
     ap (λ u. u ++ layout names (drop (at + 1) items)) c.in_ok-write_line.ensures
-        ∙ layout_steps names items at c.item-item.result c.loop-item.text.items _ _ c.loop-item-test.true written c.loop-item.invariant
+    ∙ layout_steps names items at c.item-item.result c.loop-item.text.items _ _ c.loop-item-test.true written c.loop-item.invariant
 
 pub returns : goal.returns
-returns c = layout_finished c.args.words.now c.args.items.now c.loop-item.item-index _ _ (omega arith) c.loop-item.invariant
+returns c =
+    let written = layout_finished c.args.words.now c.args.items.now c.loop-item.item-index _ _ (omega arith) c.loop-item.invariant in
+    record { text = written; read_back = subst (IsReadBack c.args.words.now c.args.items.now) (sym written) (layout_is_read_back c.args.words.now c.args.items.now) }

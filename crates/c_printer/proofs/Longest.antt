@@ -1,0 +1,176 @@
+-- The longest spelling at a place where a spelling stands that none goes on.
+use Rattle.std.proofs.Common.{◌≡◌, refl, subst, sym, ℕ, Bool, true, false, ◌&&◌, ◌||◌, not, nat_eq, cond, bytes_eq, List, [], ◌∷◌, ◌++◌, Some, None, is_some}
+use Rattle.std.specs.List.{list_all}
+use Rattle.std.proofs.lemmas.Bool.{eqb-true}
+use Rattle.std.proofs.lemmas.Slice.Eq.{bytes_eq-Decides}
+use Rattle.c_tokens.specs.Bytes.{is_digit, is_letter, is_word_byte, is_white_space, is_sign, is_exponent_mark}
+use Rattle.c_tokens.specs.Spelling.{Table, spelling_of, sign_spelling, find_text, punctuators, sign_marks, unread, is_word, is_marked_word, is_word_after_at, is_number, goes_on_number, starts_with_digit, is_space}
+use Rattle.c_printer.proofs.Bools.{and_first, and_second, and_false, or_true}
+
+-- no spelling begins with this text and then this byte
+abbrev pub NoLonger : List ℕ → ℕ → Type 0
+NoLonger t c = (p : List ℕ) → spelling_of (t ++ c ∷ p) ≡ None
+
+-- nor with this text and then what follows it
+abbrev pub Stops : List ℕ → List ℕ → Type 0
+Stops t [] = Unit {0}
+Stops t (c ∷ r) = NoLonger t c
+
+-- ---- bytes that go on no word and no number
+
+abbrev has : ℕ → List ℕ → Bool
+has c [] = false
+has c (b ∷ rest) = nat_eq b c || has c rest
+
+-- a byte after the first one, but for the mark `@)`
+abbrev goes_on_with : ℕ → List ℕ → Bool
+goes_on_with c [] = false
+goes_on_with c (b ∷ rest) = has c rest && not (bytes_eq (b ∷ rest) (64 ∷ 41 ∷ []))
+
+abbrev pub IsFree : {A : Type 0} → ℕ → Table A → Type 0
+IsFree c table = list_all (λ entry. not (goes_on_with c entry.0)) table ≡ true
+
+-- a byte with which no spelling goes on
+pub record Breaks (c : ℕ) : Type 0 where
+  pub itself : nat_eq c c ≡ true
+  pub no_letter : is_letter c ≡ false
+  pub no_word_byte : is_word_byte c ≡ false
+  pub no_point : nat_eq c 46 ≡ false
+  pub no_sign : is_sign c ≡ false
+  pub no_at : nat_eq c 64 ≡ false
+  pub free_punctuators : IsFree c punctuators
+  pub free_marks : IsFree c sign_marks
+  pub free_unread : IsFree c unread
+
+not_both : (a : Bool) → a ≡ true → not a ≡ true → ⊥
+not_both true h k = absurd (cc)
+not_both false h k = absurd (cc)
+
+-- a text with a mark that no entry has is not found
+unfound : {A : Type 0} (q : List ℕ → Bool) (text : List ℕ) (table : Table A) → q text ≡ true → list_all (λ entry. not (q entry.0)) table ≡ true → find_text text table ≡ None
+unfolding find_text
+unfound q text [] h k = refl
+unfound q text (entry ∷ others) h k = tested (bytes_eq entry.0 text) refl (unfound q text others h (and_second _ _ k)) where
+  tested : (b : Bool) → bytes_eq entry.0 text ≡ b → find_text text others ≡ None → cond b (Some entry.1) (find_text text others) ≡ None
+  tested true e none = absurd (not_both (q entry.0) (subst (λ u. q u ≡ true) (sym ((bytes_eq-Decides entry.0 text).0 e)) h) (and_first _ _ k))
+  tested false e none = none
+
+pub empty_is_none : is_some (spelling_of []) ≡ true → ⊥
+unfolding spelling_of sign_spelling find_text punctuators sign_marks unread is_word is_marked_word is_number is_space
+empty_is_none h = absurd (cc)
+
+-- the sign of marks is no spelling
+at_is_none : (b : ℕ) (is : Bool) → nat_eq b 64 ≡ is → is_some (spelling_of (b ∷ [])) ≡ true → is ≡ false
+unfolding spelling_of sign_spelling find_text punctuators sign_marks unread is_word is_marked_word is_word_after_at is_number is_space is_letter is_digit starts_with_digit is_white_space
+at_is_none b true e h = let none : is_some (spelling_of (64 ∷ [])) ≡ true = subst (λ x. is_some (spelling_of (x ∷ [])) ≡ true) (eqb-true b 64 e) h in absurd (cc)
+at_is_none b false e h = refl
+
+only_first : (a b : Bool) → a ≡ true → b ≡ false → (a && not b) ≡ true
+only_first true false h k = refl
+only_first true true h k = absurd (cc)
+only_first false b h k = absurd (cc)
+
+longer_than_one : (t : List ℕ) (c : ℕ) (p : List ℕ) → bytes_eq (t ++ c ∷ p) [] ≡ false
+longer_than_one [] c p = refl
+longer_than_one (b ∷ t) c p = refl
+
+unspelled : (text : List ℕ) → is_word text ≡ false → is_marked_word text ≡ false → is_number text ≡ false → is_space text ≡ false → sign_spelling text ≡ None → spelling_of text ≡ None
+unfolding spelling_of
+unspelled text h1 h2 h3 h4 h5 = rw (h1, h2, h3, h4) h5
+
+module _ (c : ℕ) (breaks : Breaks c) where
+  has_it : (t p : List ℕ) → has c (t ++ c ∷ p) ≡ true
+  has_it [] p = rw breaks.itself
+  has_it (b ∷ t) p = or_true (nat_eq b c) _ (has_it t p)
+
+  not_all : (t p : List ℕ) → list_all is_word_byte (t ++ c ∷ p) ≡ false
+  not_all [] p = rw breaks.no_word_byte
+  not_all (b ∷ t) p = and_false (is_word_byte b) _ (not_all t p)
+
+  no_word : (t p : List ℕ) → is_word (t ++ c ∷ p) ≡ false
+  unfolding is_word
+  no_word [] p = rw breaks.no_letter
+  no_word (b ∷ t) p = and_false (is_letter b) _ (not_all t p)
+
+  no_word_after_at : (t p : List ℕ) → is_word_after_at (t ++ c ∷ p) ≡ false
+  unfolding is_word_after_at
+  no_word_after_at [] p = rw breaks.no_at
+  no_word_after_at (b ∷ t) p = and_false (nat_eq b 64) _ (no_word t p)
+
+  no_marked_word : (b : ℕ) (t p : List ℕ) → is_marked_word (b ∷ (t ++ c ∷ p)) ≡ false
+  unfolding is_marked_word
+  no_marked_word b t p = rw (no_word_after_at (b ∷ t) p) (and_false (nat_eq b 96) _ (no_word_after_at t p))
+
+  no_number_goes_on : (before : ℕ) (t p : List ℕ) → goes_on_number before (t ++ c ∷ p) ≡ false
+  unfolding goes_on_number
+  no_number_goes_on before [] p = rw (breaks.no_word_byte, breaks.no_point, breaks.no_sign)
+  no_number_goes_on before (b ∷ t) p = and_false (is_word_byte b || nat_eq b 46 || (is_sign b && is_exponent_mark before)) _ (no_number_goes_on b t p)
+
+  no_number : (b : ℕ) (t p : List ℕ) → is_number (b ∷ (t ++ c ∷ p)) ≡ false
+  unfolding is_number
+  no_number b t p = and_false (is_digit b || (nat_eq b 46 && starts_with_digit (t ++ c ∷ p))) _ (no_number_goes_on b t p)
+
+  no_space : (b : ℕ) (t p : List ℕ) → is_space (b ∷ (t ++ c ∷ p)) ≡ false
+  unfolding is_space
+  no_space b [] p = refl
+  no_space b (x ∷ t) p = refl
+
+  goes_on : (t p : List ℕ) → is_some (spelling_of t) ≡ true → goes_on_with c (t ++ c ∷ p) ≡ true
+  goes_on [] p h = absurd (empty_is_none h)
+  goes_on (b ∷ []) p h = only_first _ _ (rw breaks.itself) (rw (at_is_none b (nat_eq b 64) refl h))
+  goes_on (b ∷ x ∷ t) p h = only_first _ _ (or_true (nat_eq x c) _ (has_it t p)) (and_false (nat_eq b 64) _ (and_false (nat_eq x 41) _ (longer_than_one t c p)))
+
+  no_sign : (text : List ℕ) → goes_on_with c text ≡ true → sign_spelling text ≡ None
+  unfolding sign_spelling
+  no_sign text h = rw (unfound (goes_on_with c) text punctuators h breaks.free_punctuators, unfound (goes_on_with c) text sign_marks h breaks.free_marks, unfound (goes_on_with c) text unread h breaks.free_unread)
+
+  pub no_longer : (t : List ℕ) → is_some (spelling_of t) ≡ true → NoLonger t c
+  no_longer [] h p = absurd (empty_is_none h)
+  no_longer (b ∷ t) h p = unspelled (b ∷ (t ++ c ∷ p)) (no_word (b ∷ t) p) (no_marked_word b t p) (no_number b t p) (no_space b t p) (no_sign (b ∷ (t ++ c ∷ p)) (goes_on (b ∷ t) p h))
+
+-- ---- the bytes of the layout
+
+pub space_breaks : Breaks 32
+unfolding punctuators sign_marks unread is_letter is_digit is_word_byte is_sign
+space_breaks = record { itself = refl; no_letter = refl; no_word_byte = refl; no_point = refl; no_sign = refl; no_at = refl; free_punctuators = refl; free_marks = refl; free_unread = refl }
+
+pub line_feed_breaks : Breaks 10
+unfolding punctuators sign_marks unread is_letter is_digit is_word_byte is_sign
+line_feed_breaks = record { itself = refl; no_letter = refl; no_word_byte = refl; no_point = refl; no_sign = refl; no_at = refl; free_punctuators = refl; free_marks = refl; free_unread = refl }
+
+pub closing_breaks : Breaks 41
+unfolding punctuators sign_marks unread is_letter is_digit is_word_byte is_sign
+closing_breaks = record { itself = refl; no_letter = refl; no_word_byte = refl; no_point = refl; no_sign = refl; no_at = refl; free_punctuators = refl; free_marks = refl; free_unread = refl }
+
+pub comma_breaks : Breaks 44
+unfolding punctuators sign_marks unread is_letter is_digit is_word_byte is_sign
+comma_breaks = record { itself = refl; no_letter = refl; no_word_byte = refl; no_point = refl; no_sign = refl; no_at = refl; free_punctuators = refl; free_marks = refl; free_unread = refl }
+
+pub semicolon_breaks : Breaks 59
+unfolding punctuators sign_marks unread is_letter is_digit is_word_byte is_sign
+semicolon_breaks = record { itself = refl; no_letter = refl; no_word_byte = refl; no_point = refl; no_sign = refl; no_at = refl; free_punctuators = refl; free_marks = refl; free_unread = refl }
+
+pub left_bracket_breaks : Breaks 91
+unfolding punctuators sign_marks unread is_letter is_digit is_word_byte is_sign
+left_bracket_breaks = record { itself = refl; no_letter = refl; no_word_byte = refl; no_point = refl; no_sign = refl; no_at = refl; free_punctuators = refl; free_marks = refl; free_unread = refl }
+
+pub right_bracket_breaks : Breaks 93
+unfolding punctuators sign_marks unread is_letter is_digit is_word_byte is_sign
+right_bracket_breaks = record { itself = refl; no_letter = refl; no_word_byte = refl; no_point = refl; no_sign = refl; no_at = refl; free_punctuators = refl; free_marks = refl; free_unread = refl }
+
+-- an opening parenthesis or bracket and white space begin no longer spelling
+pub opening_is_whole : (c : ℕ) → NoLonger (40 ∷ []) c
+unfolding spelling_of sign_spelling find_text punctuators sign_marks unread is_word is_marked_word is_word_after_at is_number is_space is_letter is_digit starts_with_digit
+opening_is_whole c p = refl
+
+pub left_bracket_is_whole : (c : ℕ) → NoLonger (91 ∷ []) c
+unfolding spelling_of sign_spelling find_text punctuators sign_marks unread is_word is_marked_word is_word_after_at is_number is_space is_letter is_digit starts_with_digit
+left_bracket_is_whole c p = refl
+
+pub space_is_whole : (c : ℕ) → NoLonger (32 ∷ []) c
+unfolding spelling_of sign_spelling find_text punctuators sign_marks unread is_word is_marked_word is_word_after_at is_number is_space is_letter is_digit starts_with_digit
+space_is_whole c p = refl
+
+pub line_feed_is_whole : (c : ℕ) → NoLonger (10 ∷ []) c
+unfolding spelling_of sign_spelling find_text punctuators sign_marks unread is_word is_marked_word is_word_after_at is_number is_space is_letter is_digit starts_with_digit
+line_feed_is_whole c p = refl

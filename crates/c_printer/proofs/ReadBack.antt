@@ -1,0 +1,92 @@
+-- A printed text is read back.
+use Rattle.std.proofs.Common.{◌≡◌, refl, subst, ap, sym, ◌∙◌, ℕ, ◌+◌, ◌≤◌, true, bytes_eq, List, [], ◌∷◌, ◌++◌, length, map, get_or, None, append_assoc, add-one, arith}
+use Rattle.std.specs.List.{AllPass, IsDistinct}
+use Rattle.std.proofs.lemmas.List.Elements.{All-head, All-tail}
+use Rattle.c_tokens.specs.declared.token.Punct.TheVariants as punct
+use Rattle.c_tokens.specs.declared.token.Shape.{Shape}
+use Rattle.c_tokens.specs.declared.token.Shape.TheVariants as s
+use Rattle.c_tokens.specs.declared.token.Token.{Token}
+use Rattle.c_tokens.specs.Tokens.{tokens_of, pieces}
+use Rattle.c_trees.specs.Pure.{is_pure_declaration}
+use Rattle.c_trees.specs.Named.{is_named_declaration}
+use Rattle.c_trees.specs.declared.tree.Declaration.{Declaration}
+use Rattle.c_grammar.specs.Reader.{shape_at, the_end}
+use Rattle.c_grammar.specs.Spells.{Stand, SpellsDeclaration}
+use Rattle.c_printer.specs.Spelled.{spelled, spelled_declaration, depth_of, deepest}
+use Rattle.c_printer.specs.Layout.{line, layout}
+use Rattle.c_printer.specs.ReadBack.{SpellInTurn, IsReadBack}
+use Rattle.c_printer.proofs.Spelling.{parted, spells}
+use Rattle.c_printer.proofs.Lexed.{Lexes, nothing_lexes, line_lexes}
+use Rattle.c_printer.proofs.Declared.{declaration_written}
+
+-- the tokens of all declarations
+abbrev all_spelled : List Declaration → List Shape
+all_spelled [] = []
+all_spelled (t ∷ others) = spelled_declaration t ++ all_spelled others
+
+-- ---- the text has these tokens
+
+layout_lexes : (names : List (List ℕ)) → IsDistinct bytes_eq names → (end : ℕ) (items : List Declaration) → AllPass (is_named_declaration names) items
+    → Lexes names end (layout names items) (all_spelled items ++ s.End ∷ [])
+unfolding layout
+layout_lexes names distinct end [] named = nothing_lexes names end
+layout_lexes names distinct end (t ∷ others) named =
+    let here : is_named_declaration names t ≡ true = All-head (λ d. is_named_declaration names d ≡ true) t others named in
+    let later : AllPass (is_named_declaration names) others = All-tail (λ d. is_named_declaration names d ≡ true) t others named in
+    subst (Lexes names end (line names (spelled_declaration t) ++ layout names others)) (sym (append_assoc (spelled_declaration t) (all_spelled others) (s.End ∷ [])))
+    (line_lexes names end (spelled_declaration t) (layout names others) (all_spelled others ++ s.End ∷ []) (declaration_written names distinct t here)
+    (layout_lexes names distinct end others later))
+
+-- ---- tokens of these shapes stand in their places
+
+later_stand : (u : List Shape) (t : Token) (w : List Token) (i j : ℕ) → Stand u w i j → Stand u (t ∷ w) (i + 1) (j + 1)
+later_stand [] t w i j st = ap (λ n. n + 1) st
+later_stand (x ∷ u) t w i j st =
+    let moved : shape_at (t ∷ w) (i + 1) ≡ shape_at w i = ap (λ n. (get_or (t ∷ w) n the_end).shape) (add-one i)
+    in (moved ∙ st.0, later_stand u t w (i + 1) j st.1)
+
+stand_all : (w : List Token) → Stand (map (λ t. t.shape) w) w 0 (length w)
+stand_all [] = refl
+stand_all (t ∷ w) =
+    (refl, subst (Stand (map (λ t. t.shape) w) (t ∷ w) 1) (add-one (length w)) (later_stand (map (λ t. t.shape) w) t w 0 (length w) (stand_all w)))
+
+-- ---- and spell the declarations
+
+module _ (w : List Token) where
+  one_spells : (t : Declaration) → is_pure_declaration t ≡ true → (d i j : ℕ) → depth_of t.value 2 ≤ d → Stand (spelled_declaration t) w i j → SpellsDeclaration d w None t i j
+  one_spells t pure d i j deep st =
+      let rest = st.1.1.1 in
+      let parts = parted (spelled t.value 2) (s.Punct punct.Semicolon ∷ []) w (i + 1 + 1 + 1) j rest in
+      let three : i + 1 + 1 + 1 ≡ i + 3 = omega arith in
+      record {
+        begins = (st.0, (st.1.0, (st.1.1.0, three)));
+        free = refl;
+        last = parts.middle;
+        value = spells w t.value 2 d (i + 3) parts.middle pure deep (subst (λ k. Stand (spelled t.value 2) w k parts.middle) three parts.first);
+        ends = parts.second;
+      }
+
+  all_spell : (items : List Declaration) → AllPass is_pure_declaration items → (d i j : ℕ) → deepest items ≤ d → Stand (all_spelled items) w i j → SpellInTurn d w items i j
+  unfolding deepest
+  all_spell [] pure d i j deep st = st
+  all_spell (t ∷ others) pure d i j deep st =
+      let parts = parted (spelled_declaration t) (all_spelled others) w i j st in (
+        parts.middle,
+        one_spells t (All-head (λ d. is_pure_declaration d ≡ true) t others pure) d i parts.middle (omega arith) parts.first,
+        all_spell others (All-tail (λ d. is_pure_declaration d ≡ true) t others pure) d parts.middle j (omega arith) parts.second,
+      )
+
+pub layout_is_read_back : (names : List (List ℕ)) (items : List Declaration) → IsReadBack names items (layout names items)
+unfolding tokens_of pieces
+layout_is_read_back names items distinct pure named =
+    let lexed = layout_lexes names distinct (length (layout names items)) items named 0 in
+    let stand = subst (λ u. Stand u lexed.tokens 0 (length lexed.tokens)) lexed.shapes (stand_all lexed.tokens) in
+    let parts = parted (all_spelled items) (s.End ∷ []) lexed.tokens 0 (length lexed.tokens) stand in
+    record {
+      tokens = lexed.tokens;
+      lexed = lexed.lexed;
+      last = parts.middle;
+      spelled = all_spell lexed.tokens items pure (deepest items) 0 parts.middle (omega arith) parts.first;
+      ends = parts.second.0;
+      whole = sym parts.second.1;
+    }
