@@ -41,7 +41,7 @@ space-digit b e = grind (arith, nat_tests)
 
 -- whole texts, by their first byte
 
-no_word : (b : ℕ) (t : List ℕ) → is_letter b ≡ false → is_word (b ∷ t) ≡ false
+pub no_word : (b : ℕ) (t : List ℕ) → is_letter b ≡ false → is_word (b ∷ t) ≡ false
 unfolding is_word
 no_word b t e = ap (λ c. c && list_all is_word_byte t) e
 
@@ -53,7 +53,7 @@ no_number : (b : ℕ) (t : List ℕ) → is_digit b ≡ false → nat_eq b 46 �
 unfolding is_number
 no_number b t e f = ap (λ c. (c || (nat_eq b 46 && starts_with_digit t)) && goes_on_number b t) e ∙ ap (λ c. (c && starts_with_digit t) && goes_on_number b t) f
 
-no_space : (b : ℕ) (t : List ℕ) → is_white_space b ≡ false → is_space (b ∷ t) ≡ false
+pub no_space : (b : ℕ) (t : List ℕ) → is_white_space b ≡ false → is_space (b ∷ t) ≡ false
 unfolding is_space
 no_space b [] e = e
 no_space b (x ∷ t) e = refl

@@ -1,8 +1,8 @@
 -- How spellings begin, and how far a word or a number reaches.
-use Rattle.std.specs.Prelude.{ℕ, ◌+◌, Bool, false, List, [], ◌∷◌, ◌&&◌, ◌||◌, nat_eq, if◌then◌else◌}
-use Rattle.std.specs.List.{prefix_len}
-use Rattle.c_tokens.specs.Bytes.{is_digit, is_letter, is_word_byte, is_sign, is_exponent_mark}
-use Rattle.c_tokens.specs.Spelling.{starts_with_digit}
+use Rattle.std.specs.Prelude.{ℕ, ◌+◌, Bool, false, not, List, [], ◌∷◌, Option, Some, None, ◌&&◌, ◌||◌, nat_eq, if◌then◌else◌}
+use Rattle.std.specs.List.{prefix_len, starts_with}
+use Rattle.c_tokens.specs.Bytes.{is_digit, is_letter, is_word_byte, is_white_space, is_sign, is_exponent_mark}
+use Rattle.c_tokens.specs.Spelling.{Table, starts_with_digit}
 
 -- how many bytes of a text go on a word
 abbrev pub word_run : List ℕ → ℕ
@@ -43,3 +43,14 @@ starts_after_at (b ∷ rest) = nat_eq b 64 && starts_with_letter rest
 unfoldable pub starts_after_backquote : List ℕ → Bool
 starts_after_backquote [] = false
 starts_after_backquote (b ∷ rest) = nat_eq b 96 && starts_after_at rest
+
+-- none of the other kinds of spellings begins here
+unfoldable pub starts_sign : List ℕ → Bool
+starts_sign [] = false
+starts_sign (b ∷ rest) =
+    not (is_letter b) && not (is_white_space b) && not (starts_number (b ∷ rest)) && not (starts_after_at (b ∷ rest)) && not (starts_after_backquote (b ∷ rest))
+
+-- the first entry of a table with which a text starts
+unfoldable pub first_prefix : {A : Type 0} → List ℕ → Table A → Option (List ℕ × A)
+first_prefix text [] = None
+first_prefix text (entry ∷ others) = if starts_with nat_eq text entry.0 then Some entry else first_prefix text others
