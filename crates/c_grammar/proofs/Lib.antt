@@ -23,3 +23,4 @@ pub mod SoundItems
 pub mod Growth
 pub mod Worked
 pub mod Named
+pub mod Lexed
