@@ -1,16 +1,15 @@
 -- Readers that take a token, and loops of those.
-use Rattle.std.proofs.Common.{◌≡◌, ◌⊎◌, inl, inr, refl, subst, ap, sym, ◌∙◌, ℕ, zero, suc, ◌+◌, ◌-◌, ◌<◌, ◌≤◌, Bool, true, false, List, length, Option, Some, None, Result, Ok, Err, arith}
+use Rattle.std.proofs.Common.{◌≡◌, ◌⊎◌, inl, inr, refl, subst, ap, sym, ◌∙◌, ℕ, ◌+◌, ◌-◌, ◌<◌, ◌≤◌, Bool, true, false, List, length, Option, Some, None, Ok, Err, arith}
 use Rattle.std.proofs.lemmas.Bool.{cases_lt}
 use Rattle.std.proofs.lemmas.List.{get_or_past}
 use Rattle.c_tokens.specs.declared.token.Shape.{Shape}
 use Rattle.c_tokens.specs.declared.token.Token.{Token}
 use Rattle.c_tokens.specs.declared.token.Shape.TheVariants.{End}
 use Rattle.c_grammar.specs.declared.refusal.Refusal.{Refusal}
-use Rattle.c_grammar.specs.declared.refusal.Refusal.TheVariants.{Memory, Syntax, TooDeep}
-use Rattle.c_grammar.specs.Reader.{Input, Reader, Outcome, Turn, More, Last, Rule, Read, Give, Refuse, Look, Next, Pick, Bind, Fits, Call, Loop, run, pick, when, choose, and_then, kind, next, turn_while, repeat}
-use Rattle.c_grammar.specs.Grammar.{read, below, body}
+use Rattle.c_grammar.specs.Reader.{Input, Reader, Outcome, Turn, More, Last, Give, Refuse, Look, Next, Pick, Bind, Fits, Call, Loop, pick, when, choose, and_then, kind, turn_while, repeat}
+use Rattle.c_grammar.specs.Grammar.{read}
 use Rattle.c_grammar.specs.Reader.{shape_at, the_end}
-use Rattle.c_grammar.proofs.Loops.{Shrinks, Split, split, same_answer, same_pair, Both}
+use Rattle.c_grammar.proofs.Loops.{split, same_answer, same_pair, Both}
 use Rattle.c_grammar.proofs.Bounds.{Bounded}
 use Rattle.c_grammar.proofs.Repeats.{goes_on, ends_with, fails_with}
 use Rattle.c_grammar.proofs.Local.{from, Onward, onward}

@@ -1,5 +1,5 @@
 -- Loops that end.
-use Rattle.std.proofs.Common.{◌≡◌, ℕ, ◌+◌, ◌<◌, ◌≤◌, Bool, List, length}
+use Rattle.std.proofs.Common.{ℕ, ◌+◌, ◌<◌, ◌≤◌, length}
 use Rattle.c_tokens.specs.declared.token.Shape.{Shape}
 use Rattle.c_grammar.specs.Reader.{Input, Reader, Turn, Rule, Expression, MetaBlock, Give, Refuse, Look, Next, Pick, Bind, Fits, Call, Loop}
 use Rattle.c_grammar.specs.Grammar.{read}

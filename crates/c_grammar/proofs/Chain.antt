@@ -1,13 +1,13 @@
 -- A chain of operators, turn by turn.
-use Rattle.std.proofs.Common.{◌≡◌, refl, ap, sym, ◌∙◌, ℕ, zero, suc, ◌+◌, ◌-◌, ◌<◌, ◌≤◌, max, nat_lt, Bool, true, false, Result, Ok, Err, arith}
-use borrow.Author.Tests.{ltb-true, ltb-false}
+use Rattle.std.proofs.Common.{◌≡◌, refl, ap, sym, ◌∙◌, ℕ, zero, suc, ◌+◌, ◌-◌, ◌<◌, max, nat_lt, Bool, true, false, Ok, Err, arith}
+use borrow.Author.Tests.{ltb-true}
 use Rattle.c_grammar.specs.declared.context.Context.{Context}
 use Rattle.c_tokens.specs.declared.token.Shape.{Shape}
 use Rattle.c_grammar.specs.declared.refusal.Refusal.{Refusal}
 use Rattle.c_grammar.specs.declared.refusal.Refusal.TheVariants.{TooDeep}
-use Rattle.c_grammar.specs.Reader.{Input, Reader, Outcome, Turn, More, Last, Rule, Expression, Read, Found, run, and_then, after, when, loop, kind, next, choose, Give, Next, ◌>>=◌}
+use Rattle.c_grammar.specs.Reader.{Input, Reader, Outcome, Turn, More, Last, Rule, Expression, Found, and_then, when, kind, next, choose, Give, ◌>>=◌}
 use Rattle.c_grammar.specs.Grammar.{binds, climb, turn, longer, joined, read, below, body}
-use Rattle.c_grammar.proofs.Loops.{Shrinks, same_answer, goes, ends, fails}
+use Rattle.c_grammar.proofs.Loops.{Shrinks, same_answer}
 use Rattle.c_grammar.proofs.Bounds.{Bounded}
 use Rattle.c_grammar.proofs.Repeats.{goes_on, ends_with, fails_with}
 

@@ -1,9 +1,7 @@
 -- More levels change nothing but `TooDeep`.
-use Rattle.std.proofs.Common.{◌≡◌, refl, subst, ap, sym, ◌∙◌, ℕ, zero, suc, ◌+◌, ◌-◌, ◌<◌, ◌≤◌, nat_lt, Bool, true, false, List, length, Option, Some, None, Result, Ok, Err, arith}
+use Rattle.std.proofs.Common.{◌≡◌, refl, ℕ, zero, suc, ◌+◌, ◌≤◌, nat_lt, Bool, true, false, length, Ok, Err, arith}
 use Rattle.std.proofs.lemmas.Bool.{lt-ltb}
 use borrow.Author.Tests.{ltb-true}
-use Rattle.c_tokens.specs.declared.token.Shape.{Shape}
-use Rattle.c_grammar.specs.declared.refusal.Refusal.{Refusal}
 use Rattle.c_grammar.specs.declared.refusal.Refusal.TheVariants.{Memory, Syntax, TooDeep}
 use Rattle.c_grammar.specs.Reader.{Input, Reader, Outcome, Turn, More, Last, Rule, Read, Give, Refuse, Look, Next, Pick, Bind, Fits, Call, Loop, run, pick, when, and_then, after, loop, kind, next}
 use Rattle.c_grammar.specs.Grammar.{read, below, body}

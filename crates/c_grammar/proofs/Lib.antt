@@ -1,4 +1,5 @@
 pub mod Sets
+pub mod Words
 pub mod Loops
 pub mod Bounds
 pub mod Repeats
@@ -6,4 +7,20 @@ pub mod Local
 pub mod Deeper
 pub mod Advance
 pub mod Live
+pub mod Alive
+pub mod Dead
+pub mod Completed
+pub mod Answered
+pub mod Examples
 pub mod Chain
+pub mod Complete
+pub mod Items
+pub mod Derives
+pub mod Raise
+pub mod Sound
+pub mod Unique
+pub mod SoundItems
+pub mod Growth
+pub mod Worked
+pub mod Named
+pub mod Lexed

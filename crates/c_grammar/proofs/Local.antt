@@ -1,16 +1,14 @@
 -- What a reader answers depends on the tokens that it reached alone, and more levels change nothing but `TooDeep`.
-use Rattle.std.proofs.Common.{◌≡◌, inl, inr, refl, subst, ap, sym, ◌∙◌, ℕ, zero, suc, ◌+◌, ◌-◌, ◌<◌, ◌≤◌, nat_lt, Bool, true, false, List, length, Option, Some, None, Result, Ok, Err, arith}
+use Rattle.std.proofs.Common.{◌≡◌, inl, inr, refl, subst, ap, sym, ◌∙◌, ℕ, zero, suc, ◌+◌, ◌<◌, ◌≤◌, nat_lt, Bool, true, false, List, length, Option, Some, None, Ok, Err, arith}
 use Rattle.std.proofs.lemmas.Bool.{cases_lt}
-use Rattle.c_tokens.specs.declared.token.Shape.{Shape}
 use Rattle.c_tokens.specs.declared.token.Token.{Token}
-use Rattle.c_grammar.specs.declared.refusal.Refusal.{Refusal}
 use Rattle.c_grammar.specs.declared.refusal.Refusal.TheVariants.{Memory, Syntax, TooDeep}
-use Rattle.c_grammar.specs.Reader.{Input, Reader, Outcome, Turn, More, Last, Rule, Read, Give, Refuse, Look, Next, Pick, Bind, Fits, Call, Loop, run, pick, when, and_then, after, loop, kind, next}
+use Rattle.c_grammar.specs.Reader.{Input, Reader, Outcome, Turn, More, Last, Rule, Read, Give, Refuse, Look, Next, Pick, Bind, Fits, Call, Loop, run, pick, when, and_then, after, loop}
 use Rattle.c_grammar.specs.Grammar.{read, below, body}
 use Rattle.c_grammar.specs.Reader.{shape_at}
 use Rattle.c_grammar.specs.Laws.{Agree}
 use Rattle.c_grammar.proofs.Loops.{Shrinks}
-use Rattle.c_grammar.proofs.Bounds.{Good, Bounded, Tame}
+use Rattle.c_grammar.proofs.Bounds.{Good, Tame}
 
 abbrev pub from : List Token → ℕ → Input
 from w i = record { tokens = w; at = i }

@@ -1,5 +1,5 @@
 -- A loop whose state grows, up to a bound.
-use Rattle.std.proofs.Common.{◌≡◌, refl, subst, ap, sym, ◌∙◌, ℕ, zero, suc, ◌+◌, ◌-◌, ◌<◌, ◌≤◌, max, nat_lt, Bool, true, false, Result, Ok, Err, arith}
+use Rattle.std.proofs.Common.{◌≡◌, refl, subst, ap, sym, ◌∙◌, ℕ, zero, suc, ◌<◌, ◌≤◌, Ok, Err, arith}
 use Rattle.c_grammar.specs.declared.refusal.Refusal.{Refusal}
 use Rattle.c_grammar.specs.declared.refusal.Refusal.TheVariants.{TooDeep}
 use Rattle.c_grammar.specs.Reader.{Input, Outcome, Turn, More, Last, and_then, after, loop}

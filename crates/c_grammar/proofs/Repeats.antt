@@ -1,5 +1,5 @@
 -- A loop of a reader, turn by turn.
-use Rattle.std.proofs.Common.{◌≡◌, ℕ, ◌+◌, ◌<◌, ◌≤◌, length, Result, Ok, Err}
+use Rattle.std.proofs.Common.{◌≡◌, ℕ, Ok, Err}
 use Rattle.c_grammar.specs.declared.refusal.Refusal.{Refusal}
 use Rattle.c_grammar.specs.Reader.{Input, Reader, Turn, More, Last, Loop}
 use Rattle.c_grammar.specs.Grammar.{read}

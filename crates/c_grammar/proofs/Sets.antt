@@ -1,5 +1,5 @@
 -- Sets of tokens.
-use Rattle.std.proofs.Common.{Bool, true, false}
+use Rattle.std.proofs.Common.{Bool, true}
 use Rattle.c_tokens.specs.declared.token.Shape.{Shape}
 
 abbrev pub Tokens : Type 0

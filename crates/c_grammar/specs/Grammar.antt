@@ -1,27 +1,22 @@
 -- The grammar as readers.
-use Rattle.std.specs.Prelude.{ℕ, zero, suc, ◌+◌, ◌==◌, max, nat_lt, not, Bool, true, false, List, [], ◌∷◌, Option, Some, None, Err}
+use Rattle.std.specs.Prelude.{ℕ, zero, suc, ◌+◌, ◌==◌, max, nat_lt, Bool, true, false, List, Option, Some, None, Err}
 use Rattle.c_tokens.specs.declared.token.Word.{Word}
 use Rattle.c_tokens.specs.declared.token.Shape.{Shape}
 use Rattle.c_tokens.specs.declared.token.Shape.TheVariants as s
-use Rattle.c_tokens.specs.declared.token.Key.{Key}
 use Rattle.c_tokens.specs.declared.token.Key.TheVariants as key
-use Rattle.c_tokens.specs.declared.token.Punct.{Punct}
 use Rattle.c_tokens.specs.declared.token.Punct.TheVariants as punct
-use Rattle.c_tokens.specs.declared.token.Mark.{Mark}
 use Rattle.c_tokens.specs.declared.token.Mark.TheVariants as mark
 use Rattle.c_trees.specs.declared.tree.BinaryOp.{BinaryOp}
 use Rattle.c_trees.specs.declared.tree.BinaryOp.TheVariants as o
 use Rattle.c_trees.specs.declared.tree.Exp.{Exp}
 use Rattle.c_trees.specs.declared.tree.Exp.TheVariants as e
-use Rattle.c_trees.specs.declared.tree.Declaration.{Declaration}
-use Rattle.c_trees.specs.declared.tree.First.{First}
 use Rattle.c_trees.specs.declared.tree.Item.{Item}
 use Rattle.c_trees.specs.declared.tree.Item.TheVariants as item
 use Rattle.c_grammar.specs.declared.context.Context.{Context}
 use Rattle.c_grammar.specs.declared.refusal.Refusal.TheVariants.{TooDeep}
 use Rattle.c_grammar.specs.Words.{is_identifier, callee, binder, is_exp}
 use Rattle.c_grammar.specs.declared.context.Context.TheVariants.{InItem, InArgument, InTemplate}
-use Rattle.c_grammar.specs.Reader.{Reader, Input, Outcome, Rule, Expression, MetaBlock, Read, Found, Turn, More, Last, Give, Refuse, Look, Next, Bind, Pick, Fits, Call, Loop, run, ◌>>=◌, choose, only, token, ◌>>◌}
+use Rattle.c_grammar.specs.Reader.{Reader, Input, Outcome, Rule, Expression, MetaBlock, Read, Found, Turn, More, Last, Give, Refuse, Look, Next, Pick, Fits, Call, Loop, run, ◌>>=◌, choose, token, ◌>>◌}
 
 -- how tightly an operator binds, and 0 for any other token
 abbrev pub binds : Shape → ℕ

@@ -1,9 +1,10 @@
 -- What the answers of a parser say of the tokens.
-use Rattle.std.specs.Prelude.{◌≡◌, ◌≤◌, ◌<◌, ℕ, List, ◌++◌, length, Option}
+use Rattle.std.specs.Prelude.{◌≡◌, ◌≤◌, ◌<◌, ℕ, true, List, ◌++◌, length, Option}
 use Rattle.c_tokens.specs.declared.token.Word.{Word}
 use Rattle.c_tokens.specs.declared.token.Token.{Token}
 use Rattle.c_tokens.specs.declared.token.Shape.{Shape}
 use Rattle.c_tokens.specs.declared.token.Shape.TheVariants as s
+use Rattle.c_trees.specs.Named.{names_word, names_integer}
 use Rattle.c_trees.specs.declared.tree.Item.{Item}
 use Rattle.c_grammar.specs.Words.{AreDistinct}
 use Rattle.c_grammar.specs.Reader.{shape_at}
@@ -13,10 +14,10 @@ use Rattle.c_grammar.specs.Spells.{SpellsItem}
 abbrev pub Agree : ℕ → List Token → List Token → Type 0
 Agree k w v = (j : ℕ) → j ≤ k → shape_at w j ≡ shape_at v j
 
--- the number of a word is that of one of the texts
+-- The number of a word or a constant is that of one of the texts, which is one of its kind.
 abbrev pub IsKnown : List (List ℕ) → Shape → Type 0
-IsKnown names (s.Word n) = n.0 < length names
-IsKnown names (s.Int n) = n.0 < length names
+IsKnown names (s.Word n) = names_word names n ≡ true
+IsKnown names (s.Int n) = names_integer names n ≡ true
 IsKnown names (s.Float n) = n.0 < length names
 IsKnown names (s.Char n) = n.0 < length names
 IsKnown names (s.Str n) = n.0 < length names

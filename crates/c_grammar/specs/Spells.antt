@@ -87,10 +87,10 @@ pub record SpellsDeclaration (d : ℕ) (w : List Token) (m : Option Word) (t : D
 -- what stands before the template of a macro: `@syntax @exp name @{ ( $$exp::binder ) @} { return` and the mark of a template
 abbrev pub heading : Word → Word → Word → List Shape
 heading name kind binder = s.Mark mark.Syntax ∷ s.Mark mark.Exp ∷ s.Word name
-  ∷ s.Mark mark.PatternOpen ∷ s.Punct punct.LeftParen
-  ∷ s.Mark mark.Bind ∷ s.Word kind ∷ s.Punct punct.Colon ∷ s.Punct punct.Colon ∷ s.Word binder
-  ∷ s.Punct punct.RightParen ∷ s.Mark mark.PatternClose
-  ∷ s.Punct punct.LeftBrace ∷ s.Key key.Return ∷ s.Mark mark.QuoteParen ∷ []
+    ∷ s.Mark mark.PatternOpen ∷ s.Punct punct.LeftParen
+    ∷ s.Mark mark.Bind ∷ s.Word kind ∷ s.Punct punct.Colon ∷ s.Punct punct.Colon ∷ s.Word binder
+    ∷ s.Punct punct.RightParen ∷ s.Mark mark.PatternClose
+    ∷ s.Punct punct.LeftBrace ∷ s.Key key.Return ∷ s.Mark mark.QuoteParen ∷ []
 
 -- A definition. Its body and its template each count one for the depth.
 pub record SpellsDefinition (d : ℕ) (w : List Token) (names : List (List ℕ)) (t : First) (i j : ℕ) : Type 0 where

@@ -1,5 +1,5 @@
 -- What the words of an expression may be.
-use Rattle.std.specs.Prelude.{◌≡◌, ◌<◌, length, ℕ, ◌==◌, not, Bool, true, false, List, [], Option, Some, None, slice_index_or, codes}
+use Rattle.std.specs.Prelude.{◌≡◌, ◌<◌, length, ℕ, ◌==◌, not, Bool, true, List, [], Option, Some, None, slice_index_or, codes}
 use Rattle.std.specs.Str.{bytes_eq}
 use Rattle.c_tokens.specs.declared.token.Word.{Word}
 use Rattle.c_grammar.specs.declared.context.Context.{Context}

@@ -3,3 +3,4 @@ pub mod Spelling
 pub mod Tokens
 pub mod Kinds
 pub mod Places
+pub mod Runs

@@ -16,7 +16,7 @@ Table A = List (List ℕ × A)
 
 unfoldable pub find_text : {A : Type 0} → List ℕ → Table A → Option A
 find_text text [] = None
-find_text text (entry ∷ others) = if bytes_eq entry.0 text then Some entry.1 else find_text text others
+find_text text (entry ∷ others) = if bytes_eq text entry.0 then Some entry.1 else find_text text others
 
 -- 6.1.1
 unfoldable pub keywords : Table Key

@@ -1,3 +1,4 @@
 pub mod Levels
 pub mod Pure
 pub mod Named
+pub mod Parts

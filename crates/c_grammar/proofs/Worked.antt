@@ -1,0 +1,74 @@
+-- The grammar at work on two items.
+use Rattle.std.proofs.Common.{◌≡◌, refl, ℕ, List, [], ◌∷◌, Some, None, Ok, Err}
+use Rattle.std.specs.Prelude.{codes}
+use Rattle.c_tokens.specs.declared.token.Word.{Word}
+use Rattle.c_tokens.specs.declared.token.Token.{Token}
+use Rattle.c_tokens.specs.declared.token.Shape.{Shape}
+use Rattle.c_tokens.specs.declared.token.Shape.TheVariants as s
+use Rattle.c_tokens.specs.declared.token.Key.TheVariants as key
+use Rattle.c_tokens.specs.declared.token.Punct.TheVariants as punct
+use Rattle.c_tokens.specs.declared.token.Mark.TheVariants as mark
+use Rattle.c_trees.specs.declared.tree.BinaryOp.TheVariants as o
+use Rattle.c_trees.specs.declared.tree.Exp.TheVariants as e
+use Rattle.c_trees.specs.declared.tree.Item.{Item}
+use Rattle.c_trees.specs.declared.tree.Item.TheVariants as item
+use Rattle.c_grammar.specs.declared.refusal.Refusal.TheVariants.{Syntax, TooDeep}
+use Rattle.c_grammar.specs.Reader.{loop}
+use Rattle.c_grammar.specs.Grammar.{read, below, expression, primary, climb, longer, parenthesized, called, placed, quoted, quote, meta_block, block, bound, pattern, definition, declaration, an_item}
+use Rattle.c_grammar.proofs.Local.{from}
+
+abbrev tokens : List Shape → List Token
+tokens [] = []
+tokens (x ∷ u) = record { shape = x; span = record { start = 0; «end» = 0 } } ∷ tokens u
+
+abbrev number : ℕ → Word
+number n = record { 0 = n }
+
+abbrev names : List (List ℕ)
+names = codes "exp" ∷ codes "twice" ∷ codes "x" ∷ codes "2" ∷ codes "a" ∷ []
+
+-- `@syntax @exp twice @{ ( $$exp::x ) @} { return `( $x * 2 ); }`
+abbrev definition_tokens : List Token
+definition_tokens = tokens (s.Mark mark.Syntax ∷ s.Mark mark.Exp ∷ s.Word (number 1) ∷ s.Mark mark.PatternOpen ∷ s.Punct punct.LeftParen
+    ∷ s.Mark mark.Bind ∷ s.Word (number 0) ∷ s.Punct punct.Colon ∷ s.Punct punct.Colon ∷ s.Word (number 2) ∷ s.Punct punct.RightParen ∷ s.Mark mark.PatternClose
+    ∷ s.Punct punct.LeftBrace ∷ s.Key key.Return ∷ s.Mark mark.QuoteParen ∷ s.Mark mark.Hole ∷ s.Word (number 2) ∷ s.Punct punct.Star ∷ s.Int (number 3)
+    ∷ s.Punct punct.RightParen ∷ s.Punct punct.Semicolon ∷ s.Punct punct.RightBrace ∷ [])
+
+abbrev definition_tree : Item
+definition_tree = item.Definition (record { name = number 1; binder = number 2; template = e.Binary o.Multiply e.Hole (e.Int (number 3)) })
+
+-- `int a = twice((2)) + x;`
+abbrev declaration_tokens : List Token
+declaration_tokens = tokens (s.Key key.Int ∷ s.Word (number 4) ∷ s.Punct punct.Equal ∷ s.Word (number 1) ∷ s.Punct punct.LeftParen ∷ s.Punct punct.LeftParen ∷ s.Int (number 3)
+    ∷ s.Punct punct.RightParen ∷ s.Punct punct.RightParen ∷ s.Punct punct.Plus ∷ s.Word (number 2) ∷ s.Punct punct.Semicolon ∷ [])
+
+abbrev declaration_tree : Item
+declaration_tree = item.Declaration (record { name = number 4; value = e.Binary o.Add (e.Call (e.Int (number 3))) (e.Name (number 2)) })
+
+-- the template counts two, its body and its mark one each
+four_levels : read 4 (an_item names None) (from definition_tokens 0) ≡ Ok (definition_tree, from definition_tokens 22)
+unfolding loop below expression primary climb longer placed quoted quote meta_block block bound pattern definition an_item
+four_levels = refl
+
+three_levels : read 3 (an_item names None) (from definition_tokens 0) ≡ Err (TooDeep 17)
+unfolding loop below expression primary climb longer placed quoted quote meta_block block bound pattern definition an_item
+three_levels = refl
+
+-- a second definition
+second : read 4 (an_item names (Some (number 1))) (from definition_tokens 0) ≡ Err (Syntax 0)
+unfolding loop below expression primary climb longer placed quoted quote meta_block block bound pattern definition an_item
+second = refl
+
+-- the call and the parentheses in it count one each, and so does the sum
+under_the_macro : read 3 (an_item names (Some (number 1))) (from declaration_tokens 0) ≡ Ok (declaration_tree, from declaration_tokens 12)
+unfolding loop below expression primary climb longer parenthesized called declaration an_item
+under_the_macro = refl
+
+two_levels : read 2 (an_item names (Some (number 1))) (from declaration_tokens 0) ≡ Err (TooDeep 9)
+unfolding loop below expression primary climb longer parenthesized called declaration an_item
+two_levels = refl
+
+-- the same name, where no macro has it, is an identifier
+under_none : read 9 (an_item names None) (from declaration_tokens 0) ≡ Err (Syntax 4)
+unfolding loop below expression primary climb longer parenthesized called declaration an_item
+under_none = refl

@@ -1,0 +1,3 @@
+pub mod Cursor
+pub mod Nests
+pub mod Answers

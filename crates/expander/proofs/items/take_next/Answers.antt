@@ -1,0 +1,16 @@
+use Rattle.std.proofs.Common.{subst}
+use Rattle.c_grammar.specs.Spells.{SpellsItem}
+use Rattle.expander.specs.Meaning.{limit}
+use Rattle.expander.proofs.Progress.{same_name, as_stop}
+use Rattle.expander.proofs.items.take_next.Goals as goal
+
+pub returns-in_ok-take-in-Ok-clause-taken : goal.returns-in_ok-take-in-Ok-clause-taken
+returns-in_ok-take-in-Ok-clause-taken c = record {
+  item = c.in-Ok.item;
+  read = subst (λ m. SpellsItem limit c.args.tokens.now c.args.words.now m c.in-Ok.item c.args.at c.in-Ok.after) (same_name c.as_ref.result c.args.first.now c.as_ref.ensures.value) c.in-Ok.ensures.read;
+  first_is = c.in_ok-take-in-Ok.ensures.first;
+  written_is = c.in_ok-take-in-Ok.ensures.written;
+}
+
+pub returns-in-Err-clause-stopped : goal.returns-in-Err-clause-stopped
+returns-in-Err-clause-stopped c = as_stop c.args.words.now _ _ c.args.tokens.now c.args.at c.in-Err.refusal c.stop.result (same_name c.as_ref.result c.args.first.now c.as_ref.ensures.value) c.stop.ensures c.in-Err.ensures.syntax c.in-Err.ensures.too_deep
