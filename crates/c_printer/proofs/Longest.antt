@@ -50,9 +50,9 @@ not_both false h k = absurd (cc)
 unfound : {A : Type 0} (q : List ℕ → Bool) (text : List ℕ) (table : Table A) → q text ≡ true → list_all (λ entry. not (q entry.0)) table ≡ true → find_text text table ≡ None
 unfolding find_text
 unfound q text [] h k = refl
-unfound q text (entry ∷ others) h k = tested (bytes_eq entry.0 text) refl (unfound q text others h (and_second _ _ k)) where
-  tested : (b : Bool) → bytes_eq entry.0 text ≡ b → find_text text others ≡ None → cond b (Some entry.1) (find_text text others) ≡ None
-  tested true e none = absurd (not_both (q entry.0) (subst (λ u. q u ≡ true) (sym ((bytes_eq-Decides entry.0 text).0 e)) h) (and_first _ _ k))
+unfound q text (entry ∷ others) h k = tested (bytes_eq text entry.0) refl (unfound q text others h (and_second _ _ k)) where
+  tested : (b : Bool) → bytes_eq text entry.0 ≡ b → find_text text others ≡ None → cond b (Some entry.1) (find_text text others) ≡ None
+  tested true e none = absurd (not_both (q entry.0) (subst (λ u. q u ≡ true) ((bytes_eq-Decides text entry.0).0 e) h) (and_first _ _ k))
   tested false e none = none
 
 pub empty_is_none : is_some (spelling_of []) ≡ true → ⊥
