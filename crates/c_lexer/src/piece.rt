@@ -15,15 +15,21 @@ use crate::bytes::{
 use crate::tables::{SIGNS, keyword, starting, word_mark};
 use c_tokens::{Key, MAX_WORD_BYTES, Mark, Punct};
 
-/// What a spelling stands for.
+/// What a token is, up to the number of its text.
 #[derive(Clone, Copy, Debug, PartialEq, Eq)]
-pub enum Meaning {
-    Space,
+pub enum Sort {
     Key(Key),
     Punct(Punct),
     Mark(Mark),
     Word,
     Integer,
+}
+
+/// What a spelling stands for.
+#[derive(Clone, Copy, Debug, PartialEq, Eq)]
+pub enum Meaning {
+    Space,
+    Token(Sort),
     Refused,
 }
 
@@ -151,10 +157,10 @@ fn word_meaning(text: &[u8]) -> Meaning
     ensures { spelling_by result ≡ spelled.word_spelling text.now }
 {
     match keyword(text) {
-        Some(key) => Meaning::Key(key),
+        Some(key) => Meaning::Token(Sort::Key(key)),
         None => {
             if text.len() <= MAX_WORD_BYTES {
-                Meaning::Word
+                Meaning::Token(Sort::Word)
             } else {
                 Meaning::Refused
             }
@@ -168,7 +174,7 @@ fn number(text: &[u8]) -> Piece
 {
     let length = 1 + number_length(text[0], &text[1..]);
     let meaning = if is_decimal(&text[..length]) {
-        Meaning::Integer
+        Meaning::Token(Sort::Integer)
     } else {
         Meaning::Refused
     };
@@ -183,7 +189,7 @@ fn marked_word(text: &[u8], start: usize) -> Piece
 {
     let length = start + word_length(&text[start..]);
     let meaning = match word_mark(&text[..length]) {
-        Some(mark) => Meaning::Mark(mark),
+        Some(mark) => Meaning::Token(Sort::Mark(mark)),
         None => Meaning::Refused,
     };
     Piece { length, meaning }

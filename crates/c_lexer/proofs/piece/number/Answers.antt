@@ -4,6 +4,7 @@ use Rattle.c_tokens.specs.Spelling.{is_decimal, token, refused, integer}
 use Rattle.c_tokens.specs.Runs.{number_run}
 use Rattle.c_tokens.proofs.Reaches.{number_run-le}
 use Rattle.c_lexer.specs.declared.piece.Meaning.TheVariants as m
+use Rattle.c_lexer.specs.declared.piece.Sort.TheVariants as s
 use Rattle.c_lexer.proofs.Heads.{part}
 use Rattle.c_lexer.proofs.Found.{some_in_number, number_found}
 use Rattle.c_lexer.proofs.piece.number.Goals as goal
@@ -39,7 +40,7 @@ says t b e = ap (λ x. cond x (token integer) refused) (sym e)
 pub returns-then-is_decimal : goal.returns-then-is_decimal
 returns-then-is_decimal c =
     let n = 1 + c.number_length-length.result in
-    number_found c.args.text.now (record { length = n; meaning = m.Integer }) c.requires (ap (λ k. 1 + k) (c.number_length-length.ensures ∙ ap (number_run (get_or c.args.text.now 0 0)) (part c.args.text.now 1)))
+    number_found c.args.text.now (record { length = n; meaning = m.Token s.Integer }) c.requires (ap (λ k. 1 + k) (c.number_length-length.ensures ∙ ap (number_run (get_or c.args.text.now 0 0)) (part c.args.text.now 1)))
     (says (take n c.args.text.now) true (sym c.is_decimal.ensures ∙ c.if-is_decimal.true))
 
 pub returns-else-is_decimal : goal.returns-else-is_decimal
