@@ -1,5 +1,5 @@
 -- What is known at a reached place, and how it goes on.
-use Rattle.std.proofs.Common.{◌≡◌, refl, sym, ap, subst, ◌∙◌, ℕ, zero, suc, ◌+◌, ◌<◌, ◌≤◌, Bool, true, false, List, [], ◌∷◌, ◌++◌, length, take, drop, cond, Option, Some, None, is_some, unwrap_or, position, bytes_eq, Result, Ok, Err, nat_lt, arith}
+use Rattle.std.proofs.Common.{◌≡◌, refl, sym, ap, subst, ◌∙◌, ℕ, zero, suc, ◌+◌, ◌-◌, ◌<◌, ◌≤◌, Bool, true, false, List, [], ◌∷◌, ◌++◌, length, take, drop, cond, Some, None, is_some, unwrap_or, position, bytes_eq, Result, Ok, Err, nat_lt, arith}
 use Rattle.std.specs.List.{position_or_len}
 use Rattle.std.proofs.lemmas.Grind.{common_steps}
 use Rattle.std.proofs.lemmas.Bool.Decides.{nat_tests}
@@ -10,6 +10,10 @@ use Rattle.c_tokens.specs.declared.token.Shape.{Shape}
 use Rattle.c_tokens.specs.declared.token.Shape.TheVariants as shape
 use Rattle.c_tokens.specs.Spelling.{Spelling, Sort, space, token, refused, keyword, punctuator, mark, word, integer}
 use Rattle.c_tokens.specs.Tokens.{longest, Piece, meaning, pieces, pieces_from, number_in, shape_of, token_at, before, adds, tokens_in, tokens_of, with_text, gains, gained_in, gained, Keeps}
+use Rattle.c_lexer.specs.declared.piece.Piece.{Piece as Described}
+use Rattle.c_lexer.specs.Meanings.{spelling_by}
+use Rattle.c_lexer.specs.Pieces.{Describes}
+use Rattle.c_lexer.proofs.Heads.{part}
 use Rattle.c_tokens.proofs.Texts.{position-with_text}
 use Rattle.c_tokens.proofs.Steps.{IsRead, piece, meaning-nothing, tokens-step, tokens-stop, gained-step}
 use Rattle.c_tokens.proofs.Longest.{longest-le}
@@ -82,7 +86,7 @@ found_some p xs ys i e =
     let further : k < length (xs ++ ys) = omega (arith, length-append xs ys) in
     ap (λ j. cond (nat_lt j (length (xs ++ ys))) (Some j) None) (place_stays p xs ys within) ∙ ap (λ b. cond b (Some k) None) (is_below k (length (xs ++ ys)) further) ∙ ap Some h.1
 
-number_some : (names : List (List ℕ)) (text : List ℕ) (i : ℕ) → position (bytes_eq text) names ≡ Some i → number_in names text ≡ i
+pub number_some : (names : List (List ℕ)) (text : List ℕ) (i : ℕ) → position (bytes_eq text) names ≡ Some i → number_in names text ≡ i
 unfolding number_in
 number_some names text i e = ap (λ o. unwrap_or o 0) e
 
@@ -127,7 +131,7 @@ read_nothing bytes old = record {
   few = omega arith;
   kept = keeps_all old;
   tokens_so_far = λ final k. prepend_none (tokens_at final bytes 0);
-  gained_so_far = refl
+  gained_so_far = refl;
 }
 
 push_append : (ts : List Token) (t : Token) (others : List Token) → (ts ++ t ∷ []) ++ others ≡ ts ++ t ∷ others
@@ -146,7 +150,7 @@ pub record Stands (bytes : List ℕ) (at n : ℕ) (s : Spelling) : Type 0 where
   pub longest_is : longest (drop at bytes) ≡ n
   pub means : meaning (take n (drop at bytes)) ≡ s
 
-some_read : (bytes : List ℕ) (at n : ℕ) (s : Spelling) → Stands bytes at n s → IsRead s → 0 < n
+pub some_read : (bytes : List ℕ) (at n : ℕ) (s : Spelling) → Stands bytes at n s → IsRead s → 0 < n
 some_read bytes at zero s h read = absurd (subst IsRead (sym h.means ∙ meaning-nothing) read)
 some_read bytes at (suc n) s h read = omega arith
 
@@ -160,15 +164,15 @@ step_tokens : (bytes : List ℕ) (at n : ℕ) (s : Spelling) → Stands bytes at
 step_tokens bytes at n s h some final =
     let rest = drop at bytes in
     tokens-step final (length bytes) at rest n h.longest_is some (inside_rest bytes at n s h)
-      ∙ ap (λ m. adds final (piece at (take n rest)) m (tokens_in final (length bytes) (pieces_from (at + n) 0 (drop n rest)))) h.means
-      ∙ ap (λ r. adds final (piece at (take n rest)) s (tokens_in final (length bytes) (pieces_from (at + n) 0 r))) (drop_further bytes at n)
+    ∙ ap (λ m. adds final (piece at (take n rest)) m (tokens_in final (length bytes) (pieces_from (at + n) 0 (drop n rest)))) h.means
+    ∙ ap (λ r. adds final (piece at (take n rest)) s (tokens_in final (length bytes) (pieces_from (at + n) 0 r))) (drop_further bytes at n)
 
 step_gained : (bytes : List ℕ) (at n : ℕ) (s : Spelling) → Stands bytes at n s → IsRead s → (names : List (List ℕ)) → gained_in names (pieces_from at 0 (drop at bytes)) ≡ gained_in (gains names (take n (drop at bytes)) s) (pieces_from (at + n) 0 (drop (at + n) bytes))
 step_gained bytes at n s h read names =
     let rest = drop at bytes in
     gained-step names at rest n h.longest_is (some_read bytes at n s h read) (inside_rest bytes at n s h) (subst IsRead (sym h.means) read)
-      ∙ ap (λ m. gained_in (gains names (take n rest) m) (pieces_from (at + n) 0 (drop n rest))) h.means
-      ∙ ap (λ r. gained_in (gains names (take n rest) s) (pieces_from (at + n) 0 r)) (drop_further bytes at n)
+    ∙ ap (λ m. gained_in (gains names (take n rest) m) (pieces_from (at + n) 0 (drop n rest))) h.means
+    ∙ ap (λ r. gained_in (gains names (take n rest) s) (pieces_from (at + n) 0 r)) (drop_further bytes at n)
 
 pub read_space : (bytes : List ℕ) (old : List (List ℕ)) (at n : ℕ) (ts : List Token) (names : List (List ℕ)) → Read bytes old at ts names → Stands bytes at n space → Read bytes old (at + n) ts names
 read_space bytes old at n ts names r h = record {
@@ -176,7 +180,7 @@ read_space bytes old at n ts names r h = record {
   few = let few = r.few in omega arith;
   kept = r.kept;
   tokens_so_far = λ final k. r.tokens_so_far final k ∙ ap (prepend ts) (step_tokens bytes at n space h (some_read bytes at n space h tt) final);
-  gained_so_far = r.gained_so_far ∙ step_gained bytes at n space h tt names
+  gained_so_far = r.gained_so_far ∙ step_gained bytes at n space h tt names;
 }
 
 same_token : (a b : Shape) (start end end' : ℕ) → a ≡ b → end ≡ end' → token_at a start end ≡ token_at b start end'
@@ -195,14 +199,14 @@ read_token bytes old at n ts names new sort shape r h gained_is shape_is =
       few = let few = r.few in omega (arith, ap length gained_is, length_gains names text s);
       kept = keeps_on old names new r.kept grown;
       tokens_so_far = λ final k.
-        r.tokens_so_far final (keeps_on names new final grown k)
+          r.tokens_so_far final (keeps_on names new final grown k)
           ∙ ap (prepend ts) (step_tokens bytes at n s h some final)
           ∙ prepend_before ts (token_at (shape_of final text sort) at (at + length text)) (tokens_at final bytes (at + n))
           ∙ ap (λ t. prepend (ts ++ t ∷ []) (tokens_at final bytes (at + n)))
-            (same_token (shape_of final text sort) shape at (at + length text) (at + n)
-              (shape_stays names final text sort (subst (λ x. Keeps x final) gained_is k) ∙ ap (λ x. shape_of x text sort) (sym gained_is) ∙ sym shape_is)
-              (ap (λ k. at + k) (length-take-le n rest (inside_rest bytes at n s h))));
-      gained_so_far = r.gained_so_far ∙ step_gained bytes at n s h tt names ∙ ap (λ x. gained_in x (pieces_from (at + n) 0 (drop (at + n) bytes))) (sym gained_is)
+          (same_token (shape_of final text sort) shape at (at + length text) (at + n)
+          (shape_stays names final text sort (subst (λ x. Keeps x final) gained_is k) ∙ ap (λ x. shape_of x text sort) (sym gained_is) ∙ sym shape_is)
+          (ap (λ k. at + k) (length-take-le n rest (inside_rest bytes at n s h))));
+      gained_so_far = r.gained_so_far ∙ step_gained bytes at n s h tt names ∙ ap (λ x. gained_in x (pieces_from (at + n) 0 (drop (at + n) bytes))) (sym gained_is);
     }
 
 -- whether and where a text is refused does not depend on the table
@@ -249,3 +253,11 @@ nothing_gained names bytes at past = ap (λ r. gained_in names (pieces_from at 0
 
 pub gained_all : (bytes : List ℕ) (old : List (List ℕ)) (at : ℕ) (ts : List Token) (names : List (List ℕ)) → Read bytes old at ts names → length bytes ≤ at → names ≡ gained old bytes
 gained_all bytes old at ts names r past = sym (r.gained_so_far ∙ nothing_gained names bytes at past)
+
+-- from what the program knows of a piece
+pub stands_by : (bytes : List ℕ) (at : ℕ) (piece : Described) (s : Spelling) → at < length bytes → Describes (take (length bytes - at) (drop at bytes)) piece → spelling_by piece.meaning ≡ s → Stands bytes at piece.length s
+stands_by bytes at piece s here d says = record {
+  here = here;
+  longest_is = ap longest (sym (part bytes at)) ∙ sym d.length;
+  means = ap (λ t. meaning (take piece.length t)) (sym (part bytes at)) ∙ sym d.meaning ∙ says;
+}

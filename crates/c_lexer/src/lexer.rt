@@ -5,11 +5,9 @@ ghost use Rattle.c_tokens.specs.Spelling.{token};
 ghost use Rattle.c_tokens.specs.Tokens.{tokens_of, gained, gains, shape_of, token_at, Keeps};
 ghost use Rattle.c_lexer.specs.Meanings.{sort_by};
 
-use std::alloc::{AllocFailed, Global};
-
-use c_tokens::{MAX_SOURCE_BYTES, Memory, Shape, Span, Token, Words};
-
 use crate::piece::{Meaning, Sort, first_piece};
+use c_tokens::{MAX_SOURCE_BYTES, Memory, Shape, Span, Token, Words};
+use std::alloc::{AllocFailed, Global};
 
 /// Why a source has no tokens.
 #[derive(Clone, Copy, Debug, PartialEq, Eq)]

@@ -87,7 +87,10 @@ pub static SIGNS: [(&[u8], Meaning); 65] = [
     (b">=", Meaning::Token(Sort::Punct(Punct::GreaterEqual))),
     (b"==", Meaning::Token(Sort::Punct(Punct::EqualEqual))),
     (b"!=", Meaning::Token(Sort::Punct(Punct::NotEqual))),
-    (b"&&", Meaning::Token(Sort::Punct(Punct::AmpersandAmpersand))),
+    (
+        b"&&",
+        Meaning::Token(Sort::Punct(Punct::AmpersandAmpersand)),
+    ),
     (b"||", Meaning::Token(Sort::Punct(Punct::BarBar))),
     (b"*=", Meaning::Token(Sort::Punct(Punct::StarEqual))),
     (b"/=", Meaning::Token(Sort::Punct(Punct::SlashEqual))),
