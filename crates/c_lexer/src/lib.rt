@@ -2,5 +2,8 @@
 #![tactic(auto)]
 
 mod bytes;
+mod lexer;
 mod piece;
 mod tables;
+
+pub use lexer::{LexStop, lex};

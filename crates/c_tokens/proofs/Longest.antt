@@ -1,5 +1,5 @@
 -- The longest spelling at a place, from what is and what is not a spelling there.
-use Rattle.std.proofs.Common.{◌≡◌, refl, sym, ap, ◌∙◌, ℕ, zero, suc, ◌<◌, ◌≤◌, true, false, cond, List, length, take, is_some, arith, ◌⊎◌, inl, inr}
+use Rattle.std.proofs.Common.{◌≡◌, refl, sym, ap, ◌∙◌, ℕ, zero, suc, ◌<◌, ◌≤◌, Bool, true, false, cond, List, length, take, is_some, arith, ◌⊎◌, inl, inr}
 use Rattle.c_tokens.specs.Spelling.{spelling_of}
 use Rattle.c_tokens.specs.Tokens.{longest, longest_up_to}
 
@@ -39,3 +39,16 @@ none_up_to text (suc k) h b = ap (λ c. cond c (suc k) (longest_up_to k text)) (
 pub longest-none : (text : List ℕ) → HasNone text → longest text ≡ 0
 unfolding longest
 longest-none text h = none_up_to text (length text) h (omega arith)
+
+one_or_less : (b : Bool) (k n : ℕ) → n ≤ k → cond b (suc k) n ≤ suc k
+one_or_less true k n h = omega arith
+one_or_less false k n h = omega arith
+
+up_to-le : (text : List ℕ) (k : ℕ) → longest_up_to k text ≤ k
+unfolding longest_up_to
+up_to-le text zero = omega arith
+up_to-le text (suc k) = one_or_less (is_some (spelling_of (take (suc k) text))) k (longest_up_to k text) (up_to-le text k)
+
+pub longest-le : (text : List ℕ) → longest text ≤ length text
+unfolding longest
+longest-le text = up_to-le text (length text)

@@ -5,7 +5,7 @@ use Rattle.std.proofs.lemmas.Bool.Decides.{nat_tests}
 use Rattle.std.proofs.lemmas.List.Sums.{prefix_len-le-length}
 use Rattle.c_tokens.specs.Bytes.{is_digit, is_letter, is_word_byte, is_white_space, is_sign, is_exponent_mark}
 use Rattle.c_tokens.specs.Spelling.{punctuators, sign_marks, unread, word_marks, is_word, is_word_after_at, is_marked_word, is_number, goes_on_number, starts_with_digit, is_space, is_decimal, space, token, refused, integer, word_spelling, mark_or_refused, sign_spelling, spelling_of, find_text}
-use Rattle.c_tokens.specs.Runs.{word_run, number_run, starts_with_letter, is_quote, starts_with_quote, starts_wide, starts_number, starts_after_at, starts_after_backquote}
+use Rattle.c_tokens.specs.Runs.{word_run, number_run, starts_with_letter, is_quote, starts_with_quote, starts_wide, starts_white, starts_number, starts_after_at, starts_after_backquote}
 use Rattle.c_tokens.proofs.Longest.{IsLongest}
 use Rattle.c_tokens.proofs.Tables.{and_true, and_false, differs, no_sign, spelling-word, spelling-marked, spelling-number, spelling-space, spelling-none}
 
@@ -360,10 +360,6 @@ after_backquote-longest b r e = record {
 }
 
 -- white space
-
-starts_white : List ℕ → Bool
-starts_white [] = false
-starts_white (b ∷ _) = is_white_space b
 
 no_white_sign : (t : List ℕ) → starts_white t ≡ true → sign_spelling t ≡ None
 unfolding starts_white is_white_space punctuators sign_marks unread

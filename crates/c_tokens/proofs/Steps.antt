@@ -29,7 +29,7 @@ pieces-step at (b ∷ rest) (suc k) e some within =
     ∙ ap (λ next. piece at (b ∷ take k rest) ∷ unless_refused (meaning (b ∷ take k rest)) next)
     (ap (λ j. pieces_from (at + 1) j rest) (omega (arith, n)) ∙ skip k (at + 1) rest (omega arith) ∙ ap (λ a. pieces_from a 0 (drop k rest)) (omega arith))
 
-meaning-nothing : meaning [] ≡ refused
+pub meaning-nothing : meaning [] ≡ refused
 unfolding meaning spelling_of is_word is_marked_word is_number is_space sign_spelling find_text punctuators sign_marks unread
 meaning-nothing = refl
 

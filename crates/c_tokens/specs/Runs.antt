@@ -17,6 +17,10 @@ unfoldable pub starts_with_letter : List ℕ → Bool
 starts_with_letter [] = false
 starts_with_letter (b ∷ _) = is_letter b
 
+unfoldable pub starts_white : List ℕ → Bool
+starts_white [] = false
+starts_white (b ∷ _) = is_white_space b
+
 -- " and '
 unfoldable pub is_quote : ℕ → Bool
 is_quote b = nat_eq b 34 || nat_eq b 39

@@ -1,5 +1,5 @@
 -- The tokens of a text: at each place the longest spelling (ISO/IEC 9899:1990, 6.1).
-use Rattle.std.specs.Prelude.{ℕ, zero, suc, ◌+◌, ◌-◌, List, [], ◌∷◌, ◌++◌, length, take, Result, Ok, Err, is_some, unwrap_or, position, if◌then◌else◌, bytes_eq}
+use Rattle.std.specs.Prelude.{◌≡◌, ℕ, zero, suc, ◌+◌, ◌-◌, List, [], ◌∷◌, ◌++◌, length, take, Result, Ok, Err, is_some, unwrap_or, position, if◌then◌else◌, bytes_eq}
 use Rattle.c_tokens.specs.declared.token.Shape.{Shape}
 use Rattle.c_tokens.specs.declared.token.Shape.TheVariants as s
 use Rattle.c_tokens.specs.declared.token.Token.{Token}
@@ -90,3 +90,8 @@ gained_in names (p ∷ others) = gained_in (gains names p.text (meaning p.text))
 -- the table after the texts of the words and constants of a text were looked up, in their order
 unfoldable pub gained : List (List ℕ) → List ℕ → List (List ℕ)
 gained names bytes = gained_in names (pieces bytes)
+
+-- the texts of a table stay at their places, and others may follow
+pub record Keeps (old new : List (List ℕ)) : Type 0 where
+  pub more : List (List ℕ)
+  pub same : new ≡ old ++ more

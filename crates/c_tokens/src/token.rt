@@ -6,6 +6,9 @@ use crate::span::Span;
 #[derive(Clone, Copy, Debug, PartialEq, Eq)]
 pub struct Word(pub u32);
 
+/// The most bytes of a source.
+pub const MAX_SOURCE_BYTES: usize = 4_194_304;
+
 /// The most bytes of a word.
 pub const MAX_WORD_BYTES: usize = 1_023;
 

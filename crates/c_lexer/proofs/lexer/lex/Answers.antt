@@ -1,0 +1,69 @@
+use Rattle.std.proofs.Common.{◌≡◌, ◌∙◌, sym, ap, subst, ◌+◌, ◌-◌, [], ◌∷◌, ◌++◌, Ok, Err, refl, take, drop, rules, arith}
+use Rattle.c_tokens.specs.Spelling.{space, token, refused}
+use Rattle.c_tokens.specs.Tokens.{gains, shape_of, Keeps}
+use Rattle.c_lexer.specs.Meanings.{spelling_by, sort_by}
+use Rattle.c_lexer.proofs.Turns.{Read, stands_by, stands_within, some_read, read_nothing, read_space, read_token, read_refused, read_all, gained_all, keeps_on, keeps_gains}
+use Rattle.c_lexer.proofs.lexer.lex.Goals as goal
+
+pub loop-at-init : goal.loop-at-init
+loop-at-init c = subst (λ ts. Read c.args.bytes.now c.args.words.now 0 ts c.args.words.now) (sym c.new-tokens.ensures.items) (read_nothing c.args.bytes.now c.args.words.now)
+
+pub overflow_add-end : goal.overflow_add-end
+overflow_add-end c =
+    let w = stands_within c.args.bytes.now c.loop-at.at c.first_piece-piece.result.length (spelling_by c.first_piece-piece.result.meaning) (stands_by c.args.bytes.now c.loop-at.at c.first_piece-piece.result (spelling_by c.first_piece-piece.result.meaning) c.loop-at-test.true c.first_piece-piece.ensures refl) in
+    search rules
+
+pub slice_bounds-shape-end : goal.slice_bounds-shape-end
+slice_bounds-shape-end c =
+    let w = stands_within c.args.bytes.now c.loop-at.at c.first_piece-piece.result.length (spelling_by c.first_piece-piece.result.meaning) (stands_by c.args.bytes.now c.loop-at.at c.first_piece-piece.result (spelling_by c.first_piece-piece.result.meaning) c.loop-at-test.true c.first_piece-piece.ensures refl) in
+    search rules
+
+pub returns-in_err-push-in-Token-clause-kept : goal.returns-in_err-push-in-Token-clause-kept
+returns-in_err-push-in-Token-clause-kept c =
+    let text = take (c.loop-at.at + c.first_piece-piece.result.length - c.loop-at.at) (drop c.loop-at.at c.args.bytes.now) in
+    keeps_on c.args.words.now c.loop-at.words c.shape.new.words c.loop-at.invariant.kept
+    (subst (Keeps c.loop-at.words) (sym c.in_ok-shape-in-Token.ensures.table) (keeps_gains c.loop-at.words text (token (sort_by c.in-Token.sort))))
+
+pub returns-in-Refused-clause-bad : goal.returns-in-Refused-clause-bad
+returns-in-Refused-clause-bad c at e names =
+    let same : c.loop-at.at ≡ at = cc in
+    read_refused c.args.bytes.now c.args.words.now c.loop-at.at c.first_piece-piece.result.length c.loop-at.tokens.items c.loop-at.words c.loop-at.invariant
+    (stands_by c.args.bytes.now c.loop-at.at c.first_piece-piece.result refused c.loop-at-test.true c.first_piece-piece.ensures (ap spelling_by c.in-Refused.is)) names
+    ∙ ap (λ place. Err place) same
+
+pub loop-at-smaller-in-Space : goal.loop-at-smaller-in-Space
+loop-at-smaller-in-Space c =
+    let some = some_read c.args.bytes.now c.loop-at.at c.first_piece-piece.result.length space (stands_by c.args.bytes.now c.loop-at.at c.first_piece-piece.result space c.loop-at-test.true c.first_piece-piece.ensures (ap spelling_by c.in-Space.is)) tt in
+    omega arith
+
+pub loop-at-preserved-in-Space : goal.loop-at-preserved-in-Space
+loop-at-preserved-in-Space c =
+    read_space c.args.bytes.now c.args.words.now c.loop-at.at c.first_piece-piece.result.length c.loop-at.tokens.items c.loop-at.words c.loop-at.invariant
+    (stands_by c.args.bytes.now c.loop-at.at c.first_piece-piece.result space c.loop-at-test.true c.first_piece-piece.ensures (ap spelling_by c.in-Space.is))
+
+pub loop-at-smaller : goal.loop-at-smaller
+loop-at-smaller c =
+    let some = some_read c.args.bytes.now c.loop-at.at c.first_piece-piece.result.length (token (sort_by c.in-Token.sort)) (stands_by c.args.bytes.now c.loop-at.at c.first_piece-piece.result (token (sort_by c.in-Token.sort)) c.loop-at-test.true c.first_piece-piece.ensures (ap spelling_by c.in-Token.is)) tt in
+    omega arith
+
+pub loop-at-preserved : goal.loop-at-preserved
+loop-at-preserved c =
+    let at = c.loop-at.at in
+    let n = c.first_piece-piece.result.length in
+    let sort = sort_by c.in-Token.sort in
+    let bytes = c.args.bytes.now in
+    let len : at + n - at ≡ n = omega arith in
+    subst (λ ts. Read bytes c.args.words.now (at + n) ts c.shape.new.words)
+    (sym (c.in_ok-push-in-Token.ensures.items ∙ ap (λ t. c.loop-at.tokens.items ++ t ∷ []) c.token.ensures))
+    (read_token bytes c.args.words.now at n c.loop-at.tokens.items c.loop-at.words c.shape.new.words sort c.in_ok-shape-in-Token.shape c.loop-at.invariant
+    (stands_by bytes at c.first_piece-piece.result (token sort) c.loop-at-test.true c.first_piece-piece.ensures (ap spelling_by c.in-Token.is))
+    (c.in_ok-shape-in-Token.ensures.table ∙ ap (λ k. gains c.loop-at.words (take k (drop at bytes)) (token sort)) len)
+    (c.in_ok-shape-in-Token.ensures.shape ∙ ap (λ k. shape_of c.shape.new.words (take k (drop at bytes)) sort) len))
+
+pub returns-clause-tokens : goal.returns-clause-tokens
+returns-clause-tokens c =
+    read_all c.args.bytes.now c.args.words.now c.loop-at.at c.loop-at.tokens.items c.loop-at.words c.loop-at.invariant c.loop-at-test.false
+    ∙ ap (λ ts. Ok ts) (sym (c.in_ok-push.ensures.items ∙ ap (λ t. c.loop-at.tokens.items ++ t ∷ []) c.token-2.ensures))
+
+pub returns-clause-gained : goal.returns-clause-gained
+returns-clause-gained c = gained_all c.args.bytes.now c.args.words.now c.loop-at.at c.loop-at.tokens.items c.loop-at.words c.loop-at.invariant c.loop-at-test.false
