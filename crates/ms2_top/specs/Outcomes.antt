@@ -1,0 +1,71 @@
+-- What comes of the bytes of a source.
+use Rattle.std.specs.Prelude.{◌≡◌, ℕ, List, [], Option, Some, None, Result, Ok, Err}
+use Rattle.std.specs.List.{AllPass}
+use Rattle.c_tokens.specs.declared.token.Token.{Token}
+use Rattle.c_tokens.specs.declared.token.Shape.TheVariants.{End}
+use Rattle.c_tokens.specs.Tokens.{tokens_of, gained}
+use Rattle.c_trees.specs.Pure.{is_pure_declaration}
+use Rattle.c_trees.specs.declared.tree.Declaration.{Declaration}
+use Rattle.c_trees.specs.declared.tree.Item.{Item}
+use Rattle.c_grammar.specs.Reader.{shape_at}
+use Rattle.c_printer.specs.Layout.{layout}
+use Rattle.c_printer.specs.ReadBack.{SpellInTurn}
+use Rattle.expander.specs.declared.stop.Stop.{Stop}
+use Rattle.expander.specs.Meaning.{IsSource, IsStop, meaning}
+use Rattle.ms2_top.specs.declared.source.Outcome.{Outcome}
+use Rattle.ms2_top.specs.declared.source.Outcome.TheVariants.{Text, Lex, Stopped}
+
+-- the texts of a source's words and constants, in the order of first sight
+abbrev pub texts_of : List ℕ → List (List ℕ)
+texts_of bytes = gained [] bytes
+
+-- ---- plain C
+
+-- The text is a list of tokens that spell these declarations in turn in the plain C grammar, in some depth. A word's
+-- number is that of its text among `names`.
+pub record IsPlain (names : List (List ℕ)) (text : List ℕ) (written : List Declaration) : Type 0 where
+  pub tokens : List Token
+  pub lexed : tokens_of names text ≡ Ok tokens
+  pub depth : ℕ
+  pub last : ℕ
+  pub spelled : SpellInTurn depth tokens written 0 last
+  pub ends : shape_at tokens last ≡ End
+
+-- ---- a source and its text
+
+-- the bytes are a source with these items
+pub record IsSourceOf (bytes : List ℕ) (items : List Item) : Type 0 where
+  pub tokens : List Token
+  pub lexed : tokens_of (texts_of bytes) bytes ≡ Ok tokens
+  pub read : IsSource (texts_of bytes) tokens items
+
+-- The text is that of the declarations that the source's items stand for: free of calls and placeholders,
+-- and the only reading of the text in the plain C grammar.
+pub record IsTextOf (bytes text : List ℕ) : Type 0 where
+  pub items : List Item
+  pub source : IsSourceOf bytes items
+  pub value : text ≡ layout (texts_of bytes) (meaning None items)
+  pub pure : AllPass is_pure_declaration (meaning None items)
+  pub reading : IsPlain (texts_of bytes) text (meaning None items)
+  pub only : (others : List Declaration) → IsPlain (texts_of bytes) text others → others ≡ meaning None items
+
+-- No items are a reading of the bytes.
+abbrev pub HasNoReading : List ℕ → Type 0
+HasNoReading bytes = (items : List Item) → IsSourceOf bytes items → ⊥
+
+-- the tokens are not all items
+pub record IsStopOf (bytes : List ℕ) (stop : Stop) : Type 0 where
+  pub tokens : List Token
+  pub lexed : tokens_of (texts_of bytes) bytes ≡ Ok tokens
+  pub stopped : IsStop (texts_of bytes) tokens stop
+  pub none : HasNoReading bytes
+
+-- a place is that of what is no token
+pub record IsNoToken (bytes : List ℕ) (at : ℕ) : Type 0 where
+  pub bad : tokens_of (texts_of bytes) bytes ≡ Err at
+  pub none : HasNoReading bytes
+
+abbrev pub IsOutcome : List ℕ → Outcome → Type 0
+IsOutcome bytes (Text text) = IsTextOf bytes text
+IsOutcome bytes (Lex at) = IsNoToken bytes at
+IsOutcome bytes (Stopped stop) = IsStopOf bytes stop

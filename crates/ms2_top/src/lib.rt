@@ -1,0 +1,13 @@
+//! The whole program: from the words of the command line to a status.
+#![tactic(auto)]
+
+mod command;
+
+mod program;
+mod source;
+mod status;
+
+
+pub use program::run;
+pub use source::{Outcome, outcome_of};
+pub use status::Status;

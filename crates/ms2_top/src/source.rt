@@ -1,0 +1,66 @@
+//! What comes of a source.
+
+ghost use Rattle.std.specs.Prelude.{◌≡◌, ◌≢◌, ◌≤◌, length, IfOk, Ok};
+ghost use Rattle.c_tokens.specs.Tokens.{tokens_of};
+ghost use Rattle.ms2_top.specs.Outcomes.{IsOutcome, texts_of};
+
+use std::alloc::Global;
+
+use c_lexer::{LexStop, lex};
+use c_printer::print;
+use c_tokens::{Bytes, MAX_SOURCE_BYTES, Memory, Token, Words};
+use expander::{Stop, feed};
+
+/// What comes of a source: its text, the place in bytes of what is no token, or why it has no reading.
+#[derive(Debug, Drop)]
+pub enum Outcome {
+    Text(Bytes),
+    Lex { at: usize },
+    Stopped(Stop),
+}
+
+/// What comes of the bytes of a file.
+pub fn outcome_of(alloc: Global, bytes: &[u8]) -> Result<Outcome, Memory>
+    requires { length bytes.now ≤ MAX_SOURCE_BYTES }
+    ensures { IfOk result (λ found. IsOutcome bytes.now found) }
+{
+    let mut words = Words::new(alloc);
+    match lex(alloc, bytes, &mut words) {
+        Ok(tokens) => translate(alloc, bytes, &tokens, &words),
+        Err(LexStop::Bad { at }) => Ok(Outcome::Lex { at }),
+        Err(LexStop::Memory) => Err(Memory),
+    }
+}
+
+/// What comes of the tokens of the bytes.
+fn translate(
+    alloc: Global,
+    bytes: &[u8],
+    tokens: &[Token],
+    words: &Words,
+) -> Result<Outcome, Memory>
+    requires table { words.now ≡ texts_of bytes.now }
+    requires lexed { tokens_of words.now bytes.now ≡ Ok tokens.now }
+    ensures { IfOk result (λ found. IsOutcome bytes.now found) }
+{
+    // The table says that its texts are distinct.
+    let _count = words.len();
+    match feed(alloc, tokens, words) {
+        Ok(written) => {
+            let text = print(alloc, written.as_slice(), words)?;
+            Ok(Outcome::Text(Bytes::from_vec(text)))
+        }
+        Err(stop) => stopped(stop),
+    }
+}
+
+/// The outcome of a stop, which is none for want of memory.
+fn stopped(stop: Stop) -> Result<Outcome, Memory>
+    ensures { IfOk result (λ found. (found ≡ Outcome.Stopped stop) × (stop ≢ Stop.Memory)) }
+{
+    match stop {
+        Stop::Syntax(_) => Ok(Outcome::Stopped(stop)),
+        Stop::TooDeep(_) => Ok(Outcome::Stopped(stop)),
+        Stop::Memory => Err(Memory),
+    }
+}
