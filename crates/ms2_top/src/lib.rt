@@ -2,12 +2,13 @@
 #![tactic(auto)]
 
 mod command;
-
 mod program;
 mod source;
 mod status;
 
-
 pub use program::run;
 pub use source::{Outcome, outcome_of};
 pub use status::Status;
+
+#[cfg(test)]
+mod tests;

@@ -5,14 +5,12 @@ ghost use Rattle.io_edge.specs.Faults.{Rose};
 ghost use Rattle.ms2_top.specs.Command.{file_of};
 ghost use Rattle.ms2_top.specs.Runs.{IsRun, IsAnswer, told, KeepsUnless};
 
-use std::alloc::Global;
-
-use c_tokens::Memory;
-use io_edge::{ReadStop, Shelf, Sink, WriteFault, put_all, read_source};
-
 use crate::command::file_of as named_file;
 use crate::source::{Outcome, outcome_of};
 use crate::status::Status;
+use c_tokens::Memory;
+use io_edge::{ReadStop, Shelf, Sink, WriteFault, put_all, read_source};
+use std::alloc::Global;
 
 /// The most bytes that a file may have.
 pub const MAX_FILE_BYTES: usize = 1024;

@@ -4,12 +4,11 @@ ghost use Rattle.std.specs.Prelude.{◌≡◌, ◌≢◌, ◌≤◌, length, IfO
 ghost use Rattle.c_tokens.specs.Tokens.{tokens_of};
 ghost use Rattle.ms2_top.specs.Outcomes.{IsOutcome, texts_of};
 
-use std::alloc::Global;
-
 use c_lexer::{LexStop, lex};
 use c_printer::print;
 use c_tokens::{Bytes, MAX_SOURCE_BYTES, Memory, Token, Words};
 use expander::{Stop, feed};
+use std::alloc::Global;
 
 /// What comes of a source: its text, the place in bytes of what is no token, or why it has no reading.
 #[derive(Debug, Drop)]

@@ -15,9 +15,9 @@ returns-in_ok-text-in-Ok c =
     let back : IsReadBack c.args.words.now c.in-Ok.written c.in_ok-text-in-Ok.text.items = subst (λ ts. IsReadBack c.args.words.now ts c.in_ok-text-in-Ok.text.items) c.as_slice.ensures c.in_ok-text-in-Ok.ensures.read_back in
     subst (IsTextOf c.args.bytes.now) (sym c.from_vec.ensures)
     (is_text_there c.args.bytes.now c.args.words.now c.requires.table c.args.tokens.now c.requires.lexed c.in-Ok.written c.in_ok-text-in-Ok.text.items
-        c.requires.lexed c.len-count.ensures.distinct c.in-Ok.ensures.translated made back)
+    c.requires.lexed c.len-count.ensures.distinct c.in-Ok.ensures.translated made back)
 
 pub returns-in-Err : goal.returns-in-Err
 returns-in-Err c = as_outcome c.args.bytes.now c.in-Err.stop c.stopped.result c.stopped.ensures
     (λ other. is_stop_there c.args.bytes.now c.args.words.now c.requires.table c.args.tokens.now c.requires.lexed c.in-Err.stop
-        c.requires.lexed (distinct c.args.words.now c.len-count.ensures.distinct) other c.in-Err.ensures.stopped)
+    c.requires.lexed (distinct c.args.words.now c.len-count.ensures.distinct) other c.in-Err.ensures.stopped)
