@@ -2,12 +2,10 @@
 
 ghost use Rattle.std.specs.Prelude.{◌≤◌, length};
 
+use crate::lexer::{LexStop, lex};
+use c_tokens::{Key, MAX_SOURCE_BYTES, Mark, Punct, Shape, Span, Token, Word, Words};
 use std::alloc::Global;
 use std::test::Fail;
-
-use c_tokens::{Key, MAX_SOURCE_BYTES, Mark, Punct, Shape, Span, Token, Word, Words};
-
-use crate::lexer::{LexStop, lex};
 
 /// The byte at which a text is refused.
 fn refused_at(alloc: Global, text: &[u8]) -> Option<usize>
@@ -96,7 +94,10 @@ fn takes_the_longest(rt: HostRuntime) -> Result<(), Fail> {
         Shape::Mark(Mark::GroupOpen),
         Shape::End,
     ];
-    assert_eq!(rt; shapes(alloc, b"@syntax`@param`{@(")?.as_slice(), marks.as_slice());
+    assert_eq!(rt;
+        shapes(alloc, b"@syntax`@param`{@(")?.as_slice(),
+        marks.as_slice()
+    );
     Ok(())
 }
 
@@ -122,7 +123,13 @@ fn numbers_and_places(rt: HostRuntime) -> Result<(), Fail> {
             start: *start,
             end: *end,
         };
-        assert_eq!(rt; *token, Token { shape: *shape, span });
+        assert_eq!(rt;
+            *token,
+            Token {
+                shape: *shape,
+                span
+            }
+        );
     }
     assert_eq!(rt; words.len(), 3);
     assert_eq!(rt; words.find(b"L1"), Some(Word(1)));
