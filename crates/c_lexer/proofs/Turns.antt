@@ -14,7 +14,7 @@ use Rattle.c_lexer.specs.declared.piece.Piece.{Piece as Described}
 use Rattle.c_lexer.specs.Meanings.{spelling_by}
 use Rattle.c_lexer.specs.Pieces.{Describes}
 use Rattle.c_lexer.proofs.Heads.{part}
-use Rattle.c_tokens.proofs.Texts.{position-with_text}
+use Rattle.c_tokens.proofs.Texts.{position-with_text, length-with_text}
 use Rattle.c_tokens.proofs.Steps.{IsRead, piece, meaning-nothing, tokens-step, tokens-stop, gained-step}
 use Rattle.c_tokens.proofs.Longest.{longest-le}
 
@@ -37,14 +37,6 @@ pub keeps_with : (names : List (List ℕ)) (text : List ℕ) → Keeps names (wi
 unfolding with_text
 keeps_with names text = with_by names text (is_some (position (bytes_eq text) names))
 
-length_by : (names : List (List ℕ)) (text : List ℕ) (b : Bool) → length (cond b names (names ++ text ∷ [])) ≤ length names + 1
-length_by names text true = omega arith
-length_by names text false = grind (arith, common_steps)
-
-length_with : (names : List (List ℕ)) (text : List ℕ) → length (with_text names text) ≤ length names + 1
-unfolding with_text
-length_with names text = length_by names text (is_some (position (bytes_eq text) names))
-
 pub keeps_gains : (names : List (List ℕ)) (text : List ℕ) (s : Spelling) → Keeps names (gains names text s)
 keeps_gains names text space = keeps_all names
 keeps_gains names text refused = keeps_all names
@@ -60,8 +52,8 @@ length_gains names text refused = omega arith
 length_gains names text (token (keyword k)) = omega arith
 length_gains names text (token (punctuator p)) = omega arith
 length_gains names text (token (mark m)) = omega arith
-length_gains names text (token word) = length_with names text
-length_gains names text (token integer) = length_with names text
+length_gains names text (token word) = length-with_text names text
+length_gains names text (token integer) = length-with_text names text
 
 -- a text that a table has keeps its place
 

@@ -1,6 +1,6 @@
 //! All tokens of a source.
 
-ghost use Rattle.std.specs.Prelude.{◌≡◌, ℕ, ◌<◌, ◌≤◌, ◌-◌, ◌^◌, List, Ok, Err, length, IfOk, OnOk, OnErr};
+ghost use Rattle.std.specs.Prelude.{◌≡◌, ℕ, ◌<◌, ◌≤◌, ◌+◌, ◌-◌, ◌^◌, List, Ok, Err, length, IfOk, OnOk, OnErr};
 ghost use Rattle.c_tokens.specs.Spelling.{token};
 ghost use Rattle.c_tokens.specs.Tokens.{tokens_of, gained, gains, shape_of, token_at, Keeps};
 ghost use Rattle.c_lexer.specs.Meanings.{sort_by};
@@ -47,6 +47,7 @@ pub fn lex(alloc: Global, bytes: &[u8], words: &mut Words) -> Result<Vec<Token>,
     ensures gained { OnOk result (words.new ≡ gained words.old bytes.now) }
     ensures bad { (at : ℕ) → result ≡ Err (LexStop.Bad at) → (names : List (List ℕ)) → tokens_of names bytes.now ≡ Err at }
     ensures kept { Keeps words.old words.new }
+    ensures few { length words.new ≤ length words.old + length bytes.now }
 {
     let mut tokens = Vec::new(alloc);
     let mut at = 0;

@@ -5,5 +5,7 @@ mod bytes;
 mod lexer;
 mod piece;
 mod tables;
+#[cfg(test)]
+mod tests;
 
 pub use lexer::{LexStop, lex};

@@ -1,5 +1,5 @@
 -- Places of texts in a table.
-use Rattle.std.proofs.Common.{◌≡◌, refl, ap, sym, ◌∙◌, ℕ, suc, ◌+◌, Bool, true, false, cond, not, List, [], ◌∷◌, ◌++◌, map, length, Some, None, is_some, position, nat_lt, bytes_eq, arith, if◌then◌else◌, ◌||◌}
+use Rattle.std.proofs.Common.{◌≡◌, refl, ap, sym, ◌∙◌, ℕ, suc, ◌+◌, ◌≤◌, Bool, true, false, cond, not, List, [], ◌∷◌, ◌++◌, map, length, Some, None, is_some, position, nat_lt, bytes_eq, arith, if◌then◌else◌, ◌||◌}
 use Rattle.std.specs.List.{position_or_len, list_any, IsDistinct, AllByRecursion}
 use Rattle.std.proofs.lemmas.Grind.{common_steps}
 use Rattle.std.proofs.lemmas.Bool.Decides.{nat_tests}
@@ -89,3 +89,12 @@ pub distinct-map : {A : Type 0} (f : A → List ℕ) (xs : List A) → IsDistinc
 unfolding IsDistinct
 distinct-map f [] h = tt
 distinct-map f (x ∷ xs) h = (apart-map f x xs h.0, distinct-map f xs h.1)
+
+length_by : (names : List (List ℕ)) (text : List ℕ) (b : Bool) → length (cond b names (names ++ text ∷ [])) ≤ length names + 1
+length_by names text true = omega arith
+length_by names text false = grind (arith, common_steps)
+
+-- a table gains at most one text at a look-up
+pub length-with_text : (names : List (List ℕ)) (text : List ℕ) → length (with_text names text) ≤ length names + 1
+unfolding with_text
+length-with_text names text = length_by names text (is_some (position (bytes_eq text) names))

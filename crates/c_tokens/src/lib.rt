@@ -5,6 +5,8 @@ mod kind;
 mod list;
 mod memory;
 mod span;
+#[cfg(test)]
+mod tests;
 mod token;
 mod words;
 

@@ -1,8 +1,8 @@
-use Rattle.std.proofs.Common.{◌≡◌, ◌∙◌, sym, ap, subst, ◌+◌, ◌-◌, [], ◌∷◌, ◌++◌, Ok, Err, refl, take, drop, rules, arith}
+use Rattle.std.proofs.Common.{length, ◌+◌, ◌≤◌, arith, ◌≡◌, ◌∙◌, sym, ap, subst, ◌-◌, [], ◌∷◌, ◌++◌, Ok, Err, refl, take, drop, rules}
 use Rattle.c_tokens.specs.Spelling.{space, token, refused}
 use Rattle.c_tokens.specs.Tokens.{gains, shape_of, Keeps}
 use Rattle.c_lexer.specs.Meanings.{spelling_by, sort_by}
-use Rattle.c_lexer.proofs.Turns.{Read, stands_by, stands_within, some_read, read_nothing, read_space, read_token, read_refused, read_all, gained_all, keeps_on, keeps_gains}
+use Rattle.c_lexer.proofs.Turns.{Read, stands_by, stands_within, some_read, read_nothing, read_space, read_token, read_refused, read_all, gained_all, keeps_on, keeps_gains, length_gains}
 use Rattle.c_lexer.proofs.lexer.lex.Goals as goal
 
 pub loop-at-init : goal.loop-at-init
@@ -67,3 +67,9 @@ returns-clause-tokens c =
 
 pub returns-clause-gained : goal.returns-clause-gained
 returns-clause-gained c = gained_all c.args.bytes.now c.args.words.now c.loop-at.at c.loop-at.tokens.items c.loop-at.words c.loop-at.invariant c.loop-at-test.false
+
+pub returns-in_err-push-in-Token-clause-few : goal.returns-in_err-push-in-Token-clause-few
+returns-in_err-push-in-Token-clause-few c =
+    let text = take (c.loop-at.at + c.first_piece-piece.result.length - c.loop-at.at) (drop c.loop-at.at c.args.bytes.now) in
+    let few : length c.loop-at.words ≤ length c.args.words.now + c.loop-at.at = c.loop-at.invariant.few in
+    omega (arith, c.loop-at-test.true, ap length c.in_ok-shape-in-Token.ensures.table, length_gains c.loop-at.words text (token (sort_by c.in-Token.sort)))
