@@ -16,7 +16,7 @@ by_status most bytes old new Usage h = absurd h
 by_status most bytes old new Read h = absurd h
 by_status most bytes old new Limit h = absurd h
 
-if_told : (most : ℕ) (bytes : List ℕ) (old new : Option (List ℕ)) (status : Status) (told_file : Option (Option (List ℕ))) → IfSome told_file (λ file. file ≡ Some bytes) → IsAnswer bytes old new status
+pub if_told : (most : ℕ) (bytes : List ℕ) (old new : Option (List ℕ)) (status : Status) (told_file : Option (Option (List ℕ))) → IfSome told_file (λ file. file ≡ Some bytes) → IsAnswer bytes old new status
     → IfSome told_file (λ file. IsRun most file old new status)
 if_told most bytes old new status None h a = tt
 if_told most bytes old new status (Some file) h a = subst (λ f. IsRun most f old new status) (sym h) (by_status most bytes old new status a)

@@ -1,4 +1,6 @@
 pub mod Answered
+pub mod Ends
+pub mod Lines
 pub mod Meanings
 pub mod Plain
 pub mod Refusals

@@ -2,6 +2,8 @@
 #![tactic(auto)]
 
 mod command;
+mod ending;
+mod messages;
 mod program;
 mod source;
 mod status;
