@@ -1,14 +1,12 @@
 //! The program `ms2`: reads one file of extended C and writes plain C90.
 #![tactic(auto)]
 
-use std::alloc::{AllocError, Global};
-use std::env;
-use std::env::Args;
-use std::io;
-use std::process::ExitCode;
-
 use io_edge::{StdShelf, StdSink};
 use ms2_top::run;
+use std::alloc::{AllocError, Global};
+use std::env::Args;
+use std::process::ExitCode;
+use std::{env, io};
 
 /// The exit status where there is no memory for the words of the command line.
 const NO_MEMORY: u8 = 6;

@@ -1,11 +1,11 @@
 -- What a run says of the file, from what reading and writing say.
-use Rattle.std.proofs.Common.{◌≡◌, refl, ap, sym, subst, ◌∙◌, ℕ, List, Option, Some, None, IfSome, IsSome}
+use Rattle.std.proofs.Common.{◌≡◌, refl, ap, sym, subst, ◌∙◌, ◌⊎◌, inl, inr, ℕ, ◌≤◌, length, List, Option, Some, None, IfSome, arith}
 use Rattle.std.specs.Option.{option_copied}
 use denote.Ref.{Bor}
 use Rattle.io_edge.specs.Files.{Files, file_at}
 use Rattle.ms2_top.specs.declared.status.Status.{Status}
 use Rattle.ms2_top.specs.declared.status.Status.TheVariants.{Done, Refused, Usage, Read, Write, Memory, Limit}
-use Rattle.ms2_top.specs.Runs.{told, IsRun, IsAnswer}
+use Rattle.ms2_top.specs.Runs.{told, IsRun, IsAnswer, IsSettled}
 
 by_status : (most : ℕ) (bytes : List ℕ) (old new : Option (List ℕ)) (status : Status) → IsAnswer bytes old new status → IsRun most (Some bytes) old new status
 by_status most bytes old new Done h = h
@@ -32,3 +32,24 @@ named found word o e h = sym h ∙ ap option_copied e
 pub first_part : (told_file : Option (Option (List ℕ))) (P Q : Option (List ℕ) → Type 0) → IfSome told_file (λ file. P file × Q file) → IfSome told_file P
 first_part None P Q h = tt
 first_part (Some file) P Q h = h.0
+
+-- ---- where no device fails
+
+module _ (RoseF RoseO : Type 0) where
+  by_answer : (most : ℕ) (bytes : List ℕ) (o : Option (Option (List ℕ))) (old new : Option (List ℕ)) (status : Status) → o ≡ Some (Some bytes) → length bytes ≤ most
+      → (status ≡ Read → RoseF ⊎ (o ≡ Some None)) → IsRun most (Some bytes) old new status → (status ≡ Write → RoseO) → ¬ RoseF → ¬ RoseO → IsSettled bytes status
+  by_answer most bytes o old new Done e le r h w f g = (h.text, h.is_text)
+  by_answer most bytes o old new Refused e le r h w f g = h
+  by_answer most bytes o old new Memory e le r h w f g = tt
+  by_answer most bytes o old new Usage e le r h w f g = absurd h
+  by_answer most bytes o old new Limit e le r h w f g = absurd (omega (arith, h))
+  by_answer most bytes o old new Write e le r h w f g = absurd (g (w refl))
+  by_answer most bytes o old new Read e le r h w f g = elim (r refl) [
+    | inl rose ↦ absurd (f rose)
+    | inr none ↦ absurd (let same : Some None ≡ Some (Some bytes) = sym none ∙ e in cc same)
+  ]
+
+  pub settled : (most : ℕ) (bytes : List ℕ) (o : Option (Option (List ℕ))) (old new : Option (List ℕ)) (status : Status)
+      → (status ≡ Read → RoseF ⊎ (o ≡ Some None)) → IfSome o (λ file. IsRun most file old new status) → (status ≡ Write → RoseO)
+      → o ≡ Some (Some bytes) → length bytes ≤ most → ¬ RoseF → ¬ RoseO → IsSettled bytes status
+  settled most bytes o old new status r h w e le f g = by_answer most bytes o old new status e le r (subst (λ o. IfSome o (λ file. IsRun most file old new status)) e h) w f g

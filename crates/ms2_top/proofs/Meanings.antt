@@ -1,11 +1,11 @@
 -- What items stand for is C alone, with words of the source.
-use Rattle.std.proofs.Common.{◌≡◌, refl, subst, ℕ, ◌+◌, Bool, true, List, [], ◌∷◌, ◌++◌, Option, Some, None}
+use Rattle.std.proofs.Common.{◌≡◌, refl, subst, ℕ, ◌+◌, true, List, [], ◌∷◌, Option, Some, None}
 use Rattle.std.specs.List.{All}
 use Rattle.std.proofs.lemmas.List.Elements.{All-nil, All-cons, All-append}
 use Rattle.c_tokens.specs.declared.token.Token.{Token}
 use Rattle.c_trees.specs.Named.{is_named, is_named_declaration, names_word}
 use Rattle.c_trees.specs.Pure.{is_pure_declaration}
-use Rattle.c_trees.specs.Parts.{is_call_free, is_hole_free}
+use Rattle.c_trees.specs.Parts.{is_call_free}
 use Rattle.c_trees.specs.declared.tree.Declaration.{Declaration}
 use Rattle.c_trees.specs.declared.tree.First.{First}
 use Rattle.c_trees.specs.declared.tree.Item.{Item}

@@ -1,15 +1,13 @@
 -- Tokens spell declarations in turn in one way.
-use Rattle.std.proofs.Common.{◌≡◌, refl, ap, sym, subst, ◌∙◌, ℕ, List, [], ◌∷◌, Option, Some, None, Result, Ok, Err}
+use Rattle.std.proofs.Common.{◌≡◌, refl, ap, sym, subst, ◌∙◌, ℕ, List, [], ◌∷◌, None, Result, Ok}
 use Rattle.c_tokens.specs.declared.token.Token.{Token}
-use Rattle.c_tokens.specs.declared.token.Shape.{Shape}
 use Rattle.c_tokens.specs.declared.token.Shape.TheVariants.{End}
 use Rattle.c_tokens.specs.declared.token.Shape.TheVariants as s
 use Rattle.c_tokens.specs.declared.token.Key.TheVariants as key
 use Rattle.c_trees.specs.declared.tree.Declaration.{Declaration}
-use Rattle.c_trees.specs.declared.tree.Item.{Item}
 use Rattle.c_trees.specs.declared.tree.Item.TheVariants as item
 use Rattle.c_grammar.specs.Reader.{shape_at}
-use Rattle.c_grammar.specs.Spells.{SpellsItem, SpellsDeclaration}
+use Rattle.c_grammar.specs.Spells.{SpellsDeclaration}
 use Rattle.c_grammar.proofs.Unique.{one_item}
 use Rattle.c_printer.specs.ReadBack.{SpellInTurn}
 use Rattle.ms2_top.specs.Outcomes.{IsPlain}

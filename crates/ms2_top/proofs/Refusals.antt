@@ -1,9 +1,8 @@
 -- What is refused has no reading.
-use Rattle.std.proofs.Common.{◌≡◌, ◌≢◌, refl, ap, sym, subst, ◌∙◌, ℕ, ◌≤◌, List, [], ◌∷◌, ◌++◌, Option, Some, None, arith}
+use Rattle.std.proofs.Common.{◌≡◌, ◌≢◌, refl, ap, sym, subst, ◌∙◌, ℕ, ◌≤◌, List, [], ◌∷◌, Option, None, arith}
 use Rattle.std.proofs.lemmas.List.{append-nil}
 use Rattle.c_tokens.specs.declared.token.Word.{Word}
 use Rattle.c_tokens.specs.declared.token.Token.{Token}
-use Rattle.c_tokens.specs.declared.token.Shape.{Shape}
 use Rattle.c_tokens.specs.declared.token.Shape.TheVariants.{End}
 use Rattle.c_tokens.specs.declared.token.Shape.TheVariants as s
 use Rattle.c_tokens.specs.declared.token.Key.TheVariants as key
@@ -14,7 +13,7 @@ use Rattle.c_trees.specs.declared.tree.Item.TheVariants as item
 use Rattle.c_grammar.specs.Words.{AreDistinct}
 use Rattle.c_grammar.specs.Reader.{shape_at}
 use Rattle.c_grammar.specs.Spells.{SpellsItem}
-use Rattle.c_grammar.specs.Laws.{Reading, Source, AnyDepth, Within, Dead, AreKnown, IsFirstDead, IsTooDeep}
+use Rattle.c_grammar.specs.Laws.{Source, AnyDepth, Within, Dead, AreKnown, IsFirstDead, IsTooDeep}
 use Rattle.c_grammar.proofs.Unique.{one_item}
 use Rattle.expander.specs.Meaning.{limit, name_of, defined, defined_by, Read, IsSource, Refused}
 

@@ -19,7 +19,7 @@ use Rattle.expander.specs.Meaning.{IsSource, IsStop, IsTranslation, meaning}
 use Rattle.c_tokens.specs.declared.memory.Memory.{Memory as Gone}
 use Rattle.ms2_top.specs.declared.source.Outcome.{Outcome}
 use Rattle.ms2_top.specs.declared.source.Outcome.TheVariants.{Stopped}
-use Rattle.ms2_top.specs.Outcomes.{IsOutcome, texts_of, IsPlain, IsSourceOf, IsTextOf, HasNoReading, IsStopOf, IsNoToken}
+use Rattle.ms2_top.specs.Outcomes.{IsOutcome, texts_of, IsPlain, IsTextOf, HasNoReading, IsStopOf, IsNoToken}
 use Rattle.ms2_top.proofs.Meanings.{none_sound, pure_meaning, named_meaning}
 use Rattle.ms2_top.proofs.Plain.{one_plain, same_tokens}
 use Rattle.ms2_top.proofs.Refusals.{first_dead_none, too_deep_none}

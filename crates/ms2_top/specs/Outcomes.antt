@@ -1,5 +1,5 @@
 -- What comes of the bytes of a source.
-use Rattle.std.specs.Prelude.{◌≡◌, ℕ, List, [], Option, Some, None, Result, Ok, Err}
+use Rattle.std.specs.Prelude.{◌≡◌, ℕ, List, [], None, Ok, Err}
 use Rattle.std.specs.List.{AllPass}
 use Rattle.c_tokens.specs.declared.token.Token.{Token}
 use Rattle.c_tokens.specs.declared.token.Shape.TheVariants.{End}

@@ -1,5 +1,5 @@
 -- What the status of a run says.
-use Rattle.std.specs.Prelude.{◌≡◌, ◌<◌, ℕ, List, length, take, Option, Some, None, IsSome, IsSomeAnd, SomeIndex}
+use Rattle.std.specs.Prelude.{◌≡◌, ◌<◌, ℕ, List, length, take, Option, Some, None, IsSome, IsSomeAnd}
 use Rattle.io_edge.specs.Files.{Files, file_at}
 use Rattle.io_edge.specs.Put.{Appends}
 use Rattle.ms2_top.specs.declared.status.Status.{Status}
@@ -42,6 +42,13 @@ IsRun most file old new Limit = IsSomeAnd file (λ bytes. most < length bytes)
 IsRun most file old new Usage = ⊥
 IsRun most file old new Read = Unit {0}
 IsRun most file old new Memory = IsSome file
+
+-- the status that the bytes of a file have, where no device fails
+abbrev pub IsSettled : List ℕ → Status → Type 0
+IsSettled bytes Done = (text : List ℕ) × IsTextOf bytes text
+IsSettled bytes Refused = HasNoReading bytes
+IsSettled bytes Memory = Unit {0}
+IsSettled bytes _ = ⊥
 
 -- only what is written changes the sink
 abbrev pub KeepsUnless : {O : Type 0} → Status → O → O → Type 0

@@ -1,4 +1,4 @@
-use Rattle.std.proofs.Common.{◌≡◌, ap, sym, subst, ◌∙◌, IfOk}
+use Rattle.std.proofs.Common.{◌≡◌, ap, sym, subst, ◌∙◌}
 use Rattle.c_parser.proofs.Distinct.{distinct}
 use Rattle.c_printer.specs.Layout.{layout}
 use Rattle.c_printer.specs.ReadBack.{IsReadBack}
