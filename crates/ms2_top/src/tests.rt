@@ -3,7 +3,7 @@
 use crate::{Outcome, Status, outcome_of, run};
 use c_tokens::{List, MAX_SOURCE_BYTES};
 use expander::Stop;
-use io_edge::{MemoryShelf, MemorySink, SureSink};
+use io_edge::{MemoryShelf, MemorySink, Sink, SureSink};
 use std::alloc::Global;
 use std::test::Fail;
 
@@ -70,6 +70,20 @@ static WRONG: [(&str, u32); 10] = [
     ("@syntax @exp m @{ ( $$num::x ) @} { return `(0); }", 22),
 ];
 
+/// Sources that are refused, each with its line.
+static LINES: [(&str, &str); 7] = [
+    ("int a = 1; ?", "a.c:1:12: syntax\n"),
+    ("int a = 1", "a.c:1:10: syntax\n"),
+    ("int a = 1;\r\n\nint b = 2\n;;", "a.c:4:2: syntax\n"),
+    ("int x; /* open", "a.c:1:8: lex\n"),
+    ("#pragma pack(1)", "a.c:1:1: lex\n"),
+    ("int a = 1;\n \x7f", "a.c:2:2: lex\n"),
+    (
+        "@syntax @exp one @{ ( $$exp::x ) @} { return `(0); }\n@syntax @exp one @{ ( $$exp::x ) @} { return `(0); }",
+        "a.c:2:1: syntax\n",
+    ),
+];
+
 /// Runs over one file `a.c`, from which seven bytes at most are read at a time, with these words.
 fn status_of(
     alloc: Global,
@@ -88,11 +102,21 @@ fn status_over(
     shelf: &mut MemoryShelf,
     out: &mut MemorySink,
 ) -> Result<Status, Fail> {
+    answer_over(alloc, words, shelf, out, &mut SureSink::new())
+}
+
+fn answer_over<E: Sink>(
+    alloc: Global,
+    words: &[&str],
+    shelf: &mut MemoryShelf,
+    out: &mut MemorySink,
+    err: &mut E,
+) -> Result<Status, Fail> {
     let mut owned = Vec::new(alloc);
     for word in words {
         owned.push(String::from_str(alloc, word)?)?;
     }
-    Ok(run(alloc, &owned, shelf, out, &mut SureSink::new()))
+    Ok(run(alloc, &owned, shelf, out, err))
 }
 
 /// A sink that takes four bytes at a time and fails at its sends of these numbers.
@@ -210,5 +234,85 @@ fn answers_for_faults(rt: HostRuntime) -> Result<(), Fail> {
         Status::Read
     );
     assert_eq!(rt; out.held(), b"".as_slice());
+    Ok(())
+}
+
+/// Runs over one file `a.c`, with the line of the run in `err`.
+fn line_of(
+    alloc: Global,
+    words: &[&str],
+    source: &[u8],
+    err: &mut MemorySink,
+) -> Result<Status, Fail> {
+    let mut shelf = MemoryShelf::new(alloc, 7, List::from_vec(Vec::new(alloc)));
+    shelf.add_file("a.c", source)?;
+    answer_over(alloc, words, &mut shelf, &mut sink(alloc, &[])?, err)
+}
+
+#[test]
+fn says_where_and_why(rt: HostRuntime) -> Result<(), Fail> {
+    for (source, line) in &LINES {
+        let mut err = sink(rt.alloc(), &[])?;
+        let status = line_of(rt.alloc(), &["a.c"], source.as_bytes(), &mut err)?;
+        assert_eq!(rt; status, Status::Refused);
+        assert_eq!(rt; err.held(), line.as_bytes());
+    }
+    Ok(())
+}
+
+#[test]
+fn says_what_is_too_deep(rt: HostRuntime) -> Result<(), Fail> {
+    let mut deep = b"int x = ".to_vec(rt.alloc())?;
+    for _ in 0..1001 {
+        deep.push(b'(')?;
+    }
+    let mut err = sink(rt.alloc(), &[])?;
+    let status = line_of(rt.alloc(), &["a.c"], &deep, &mut err)?;
+    assert_eq!(rt; status, Status::Refused);
+    assert_eq!(rt; err.held(), b"a.c:1:1009: too deep\n".as_slice());
+    Ok(())
+}
+
+#[test]
+fn says_what_failed(rt: HostRuntime) -> Result<(), Fail> {
+    let alloc = rt.alloc();
+    let mut err = sink(alloc, &[])?;
+    let status = line_of(alloc, &[], b"", &mut err)?;
+    assert_eq!(rt; status, Status::Usage);
+    assert_eq!(rt; err.held(), b"usage: ms2 FILE\n".as_slice());
+
+    let mut err = sink(alloc, &[])?;
+    let status = line_of(alloc, &["none.c"], b"", &mut err)?;
+    assert_eq!(rt; status, Status::Read);
+    assert_eq!(rt; err.held(), b"ms2: cannot read none.c\n".as_slice());
+
+    let large = vec![in alloc; b' '; 1025]?;
+    let mut err = sink(alloc, &[])?;
+    let status = line_of(alloc, &["a.c"], &large, &mut err)?;
+    assert_eq!(rt; status, Status::Limit);
+    assert_eq!(rt; err.held(), b"a.c: too large\n".as_slice());
+
+    let mut shelf = MemoryShelf::new(alloc, 7, List::from_vec(Vec::new(alloc)));
+    shelf.add_file("a.c", b"int x = 1;")?;
+    let mut err = sink(alloc, &[])?;
+    let mut out = sink(alloc, &[1])?;
+    let status = answer_over(alloc, &["a.c"], &mut shelf, &mut out, &mut err)?;
+    assert_eq!(rt; status, Status::Write);
+    assert_eq!(rt; err.held(), b"ms2: cannot write\n".as_slice());
+    Ok(())
+}
+
+#[test]
+fn keeps_the_status_where_the_line_fails(rt: HostRuntime) -> Result<(), Fail> {
+    // Each piece takes a send of its own: the name, a colon, and then the line's number, which fails.
+    let mut err = sink(rt.alloc(), &[3])?;
+    let status = line_of(rt.alloc(), &["a.c"], b"?", &mut err)?;
+    assert_eq!(rt; status, Status::Refused);
+    assert_eq!(rt; err.held(), b"a.c:".as_slice());
+
+    let mut err = sink(rt.alloc(), &[1])?;
+    let status = line_of(rt.alloc(), &["a.c"], b"int x = 1;", &mut err)?;
+    assert_eq!(rt; status, Status::Done);
+    assert_eq!(rt; err.held(), b"".as_slice());
     Ok(())
 }
