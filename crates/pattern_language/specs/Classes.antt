@@ -1,5 +1,5 @@
 -- Classes of tokens by number, and sets of them.
-use Rattle.std.specs.Prelude.{◌≡◌, ℕ, ◌+◌, ◌*◌, Bool, true, false, ◌||◌, List, [], ◌∷◌, nat_eq}
+use Rattle.std.specs.Prelude.{◌≡◌, ℕ, ◌+◌, ◌*◌, Bool, true, false, ◌||◌, List, [], ◌∷◌, nat_eq, nat_lt}
 use Rattle.c_tokens.specs.declared.token.Key.{Key}
 use Rattle.c_tokens.specs.declared.token.Key.TheVariants as k
 use Rattle.c_tokens.specs.declared.token.Punct.{Punct}
@@ -153,6 +153,10 @@ class_number c.Char = 116
 class_number c.Str = 117
 class_number c.End = 118
 class_number (c.Hole kind lists) = 119 + kind_number kind + 9 * lists
+
+-- no placeholder with lists
+abbrev pub is_common : Class → Bool
+is_common c = nat_lt (class_number c) 128
 
 -- a set of classes, as a test
 abbrev pub Classes : Type 0

@@ -30,10 +30,18 @@ infix_operators =
 abbrev pub statement_words : List Class
 statement_words = c.Key k.If ∷ c.Key k.Switch ∷ c.Key k.While ∷ c.Key k.Do ∷ c.Key k.For ∷ c.Key k.Goto ∷ c.Key k.Continue ∷ c.Key k.Break ∷ c.Key k.Return ∷ c.Key k.Case ∷ c.Key k.Default ∷ []
 
+-- the parenthesis and the prefix operators (6.3.1, 6.3.3)
+abbrev pub prefix_operators : List Class
+prefix_operators =
+    c.Punct p.LeftParen ∷ c.Punct p.Ampersand ∷ c.Punct p.Star ∷ c.Punct p.Plus ∷ c.Punct p.Minus ∷ c.Punct p.Tilde ∷ c.Punct p.Exclamation
+    ∷ c.Punct p.PlusPlus ∷ c.Punct p.MinusMinus ∷ c.Key k.Sizeof ∷ []
+
+-- the postfix operators (6.3.2)
+abbrev pub postfix_operators : List Class
+postfix_operators = c.Punct p.LeftParen ∷ c.Punct p.LeftBracket ∷ c.Punct p.Dot ∷ c.Punct p.Arrow ∷ c.Punct p.PlusPlus ∷ c.Punct p.MinusMinus ∷ []
+
 abbrev pub begin_exp : List Class
-begin_exp =
-    c.Word ∷ c.Int ∷ c.Float ∷ c.Char ∷ c.Str ∷ c.Punct p.LeftParen ∷ c.Punct p.Ampersand ∷ c.Punct p.Star ∷ c.Punct p.Plus ∷ c.Punct p.Minus ∷ c.Punct p.Tilde ∷ c.Punct p.Exclamation ∷ c.Punct p.PlusPlus ∷ c.Punct p.MinusMinus
-    ∷ c.Key k.Sizeof ∷ c.Hole t.Id 0 ∷ c.Hole t.Num 0 ∷ c.Hole t.Exp 0 ∷ []
+begin_exp = prefix_operators ++ c.Word ∷ c.Int ∷ c.Float ∷ c.Char ∷ c.Str ∷ c.Hole t.Id 0 ∷ c.Hole t.Num 0 ∷ c.Hole t.Exp 0 ∷ []
 
 abbrev pub begin_spec : List Class
 begin_spec = types ++ tags ++ c.Word ∷ c.Hole t.Spec 0 ∷ []
@@ -55,7 +63,7 @@ beginnings t.Member = begin_spec ++ c.Hole t.Member 0 ∷ []
 
 -- which classes may go on with a tree of the kind
 abbrev pub continuations : Kind → List Class
-continuations t.Exp = infix_operators ++ c.Punct p.LeftParen ∷ c.Punct p.LeftBracket ∷ c.Punct p.Dot ∷ c.Punct p.Arrow ∷ c.Punct p.PlusPlus ∷ c.Punct p.MinusMinus ∷ c.Str ∷ []
+continuations t.Exp = infix_operators ++ postfix_operators ++ c.Str ∷ []
 continuations t.Stmt = c.Key k.Else ∷ []
 continuations t.Spec = types ++ c.Key k.Const ∷ c.Key k.Volatile ∷ c.Punct p.LeftBrace ∷ []
 continuations t.Param = begin_spec ++ storage ++ c.Punct p.Star ∷ c.Punct p.LeftParen ∷ c.Punct p.LeftBracket ∷ c.Punct p.LeftBrace ∷ c.Hole t.Id 0 ∷ []

@@ -31,7 +31,7 @@ fn class_number(class: Class) -> u32
 }
 
 impl ClassSet {
-    pub fn empty() -> ClassSet
+    pub(crate) fn empty() -> ClassSet
         ensures { (class : Class) → sets.has result class ≡ classes.nothing class }
     {
         ClassSet { bits: 0 }
@@ -54,7 +54,7 @@ impl ClassSet {
     }
 
     /// The classes that are in one of two sets.
-    pub fn union(self, other: ClassSet) -> ClassSet
+    pub(crate) fn union(self, other: ClassSet) -> ClassSet
         ensures { (class : Class) → sets.has result class ≡ classes.either (sets.has self) (sets.has other) class }
     {
         ClassSet {
@@ -63,9 +63,9 @@ impl ClassSet {
     }
 
     /// The set with one class more, which is no placeholder with lists.
-    pub fn with(self, added: Class) -> ClassSet
+    pub(crate) fn with(self, added: Class) -> ClassSet
         requires { classes.class_number added < 128 }
-        ensures { (class : Class) → sets.has result class ≡ classes.either (classes.only added) (sets.has self) class }
+        ensures { (class : Class) → sets.has result class ≡ classes.either (sets.has self) (classes.only added) class }
     {
         ClassSet {
             bits: self.bits | 1 << class_number(added),
