@@ -1,3 +1,5 @@
 pub mod Numbers
 pub mod Bits
 pub mod SetLemmas
+pub mod Elements
+pub mod Below

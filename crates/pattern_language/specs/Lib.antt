@@ -1,3 +1,5 @@
 pub mod Classes
 pub mod Sets
 pub mod Kinds
+pub mod Patterns
+pub mod Rules

@@ -3,6 +3,8 @@
 
 mod class_set;
 mod kinds;
+mod lists;
 
 pub use class_set::ClassSet;
 pub use kinds::{cont, first};
+pub use lists::{cont_of, first_of};

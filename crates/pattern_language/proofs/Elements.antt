@@ -1,0 +1,64 @@
+-- A pattern, element by element.
+use Rattle.std.proofs.Common.{◌≡◌, refl, ap, sym, ◌∙◌, ℕ, ◌+◌, ◌<◌, ◌≤◌, subst, List, [], ◌∷◌, ◌++◌, map, length, drop, take, get_or, arith, Option, Some, None, Bool, true, false, ◌&&◌, ◌||◌, nat_eq, drop-cons, add-one, length-drop}
+use Rattle.std.proofs.lemmas.List.{take_more}
+use Rattle.c_tokens.specs.declared.token.Token.{Token}
+use Rattle.c_tokens.specs.declared.token.Word.{Word}
+use Rattle.c_tokens.specs.declared.kind.Kind.{Kind}
+use Rattle.c_tokens.specs.declared.span.Span.{Span}
+use Rattle.c_tokens.specs.declared.class.Class.{Class}
+use Rattle.c_tokens.specs.declared.element.Element.{Element, fold-Element, fold-roll-Element, roll-Element}
+use Rattle.c_tokens.specs.declared.element.Element.TheOpen.{Element-F}
+use Rattle.c_tokens.specs.declared.element.Element.TheVariants as v
+use Rattle.c_tokens.specs.declared.element.Element.TheVariants.{rolls-Literal, rolls-Bind, rolls-Repeat, rolls-Maybe}
+use Rattle.pattern_language.specs.Patterns.{Pattern, Done, Literal, Bind, Repeat, Maybe, before, element, after_all, pattern_of, first_of, can_be_empty, cont_of, names}
+
+each : (es : List Element) → after_all (map (fold-Element (Pattern → Pattern) before) es) Done ≡ pattern_of es
+unfolding pattern_of element
+each [] = refl
+each (e ∷ es) = ap (fold-Element (Pattern → Pattern) before e) (each es)
+
+pub element_literal : (t : Token) (p : Pattern) → element (v.Literal t) p ≡ Literal t p
+unfolding element
+element_literal t p = ap (λ e. element e p) (sym (rolls-Literal t)) ∙ ap (λ f. f p) (fold-roll-Element (Pattern → Pattern) before (Element-F.Literal t))
+
+pub element_bind : (kind : Kind) (name : Word) (span : Span) (p : Pattern) → element (v.Bind kind name span) p ≡ Bind kind name p
+unfolding element
+element_bind kind name span p = ap (λ e. element e p) (sym (rolls-Bind kind name span)) ∙ ap (λ f. f p) (fold-roll-Element (Pattern → Pattern) before (Element-F.Bind kind name span))
+
+pub element_repeat : (least : ℕ) (sep : Option Token) (body : List Element) (span : Span) (p : Pattern) → element (v.Repeat least sep body span) p ≡ Repeat least sep (pattern_of body) p
+unfolding element
+element_repeat least sep body span p = ap (λ e. element e p) (sym (rolls-Repeat least sep body span)) ∙ ap (λ f. f p) (fold-roll-Element (Pattern → Pattern) before (Element-F.Repeat least sep body span))
+    ∙ ap (λ b. Repeat least sep b p) (each body)
+
+pub element_maybe : (intro : Token) (body : List Element) (span : Span) (p : Pattern) → element (v.Maybe intro body span) p ≡ Maybe intro (pattern_of body) p
+unfolding element
+element_maybe intro body span p = ap (λ e. element e p) (sym (rolls-Maybe intro body span)) ∙ ap (λ f. f p) (fold-roll-Element (Pattern → Pattern) before (Element-F.Maybe intro body span))
+    ∙ ap (λ b. Maybe intro b p) (each body)
+
+pub pattern_empty : (es : List Element) → length es ≡ 0 → pattern_of es ≡ Done
+unfolding pattern_of
+pattern_empty [] h = refl
+pattern_empty (e ∷ es) h = absurd (cc h)
+
+-- ---- the elements from number i on
+
+pub rest_end : (es : List Element) (i : ℕ) → length es ≤ i → pattern_of (drop i es) ≡ Done
+rest_end es i h = pattern_empty (drop i es) (omega (arith, length-drop i es))
+
+pub rest_step : (es : List Element) (i : ℕ) (d : Element) → i < length es → pattern_of (drop i es) ≡ element (get_or es i d) (pattern_of (drop (i + 1) es))
+unfolding pattern_of
+rest_step es i d h = rw (add-one, drop-cons es i d) refl
+
+pub rest_literal : (es : List Element) (i : ℕ) (d : Element) (t : Token) → i < length es → get_or es i d ≡ v.Literal t → pattern_of (drop i es) ≡ Literal t (pattern_of (drop (i + 1) es))
+rest_literal es i d t h is = rest_step es i d h ∙ ap (λ e. element e (pattern_of (drop (i + 1) es))) is ∙ element_literal t (pattern_of (drop (i + 1) es))
+
+pub rest_bind : (es : List Element) (i : ℕ) (d : Element) (kind : Kind) (name : Word) (span : Span) → i < length es → get_or es i d ≡ v.Bind kind name span → pattern_of (drop i es) ≡ Bind kind name (pattern_of (drop (i + 1) es))
+rest_bind es i d kind name span h is = rest_step es i d h ∙ ap (λ e. element e (pattern_of (drop (i + 1) es))) is ∙ element_bind kind name span (pattern_of (drop (i + 1) es))
+
+pub rest_repeat : (es : List Element) (i : ℕ) (d : Element) (least : ℕ) (sep : Option Token) (body : List Element) (span : Span) → i < length es → get_or es i d ≡ v.Repeat least sep body span → pattern_of (drop i es) ≡ Repeat least sep (pattern_of body) (pattern_of (drop (i + 1) es))
+rest_repeat es i d least sep body span h is = rest_step es i d h ∙ ap (λ e. element e (pattern_of (drop (i + 1) es))) is ∙ element_repeat least sep body span (pattern_of (drop (i + 1) es))
+
+pub rest_maybe : (es : List Element) (i : ℕ) (d : Element) (intro : Token) (body : List Element) (span : Span) → i < length es → get_or es i d ≡ v.Maybe intro body span → pattern_of (drop i es) ≡ Maybe intro (pattern_of body) (pattern_of (drop (i + 1) es))
+rest_maybe es i d intro body span h is = rest_step es i d h ∙ ap (λ e. element e (pattern_of (drop (i + 1) es))) is ∙ element_maybe intro body span (pattern_of (drop (i + 1) es))
+
+pub ruleset rests = (rest_literal, rest_bind, rest_repeat, rest_maybe, rest_end)
