@@ -10,7 +10,8 @@ use Rattle.c_tokens.specs.declared.element.Element.{Element, fold-Element, fold-
 use Rattle.c_tokens.specs.declared.element.Element.TheOpen.{Element-F}
 use Rattle.c_tokens.specs.declared.element.Element.TheVariants as v
 use Rattle.c_tokens.specs.declared.element.Element.TheVariants.{rolls-Literal, rolls-Bind, rolls-Repeat, rolls-Maybe}
-use Rattle.pattern_language.specs.Patterns.{Pattern, Done, Literal, Bind, Repeat, Maybe, before, element, after_all, pattern_of, first_of, can_be_empty, cont_of, names}
+use Rattle.pattern_language.specs.Patterns.{Pattern, Done, Literal, Bind, Repeat, Maybe, before, element, after_all, pattern_of, first_of, can_be_empty, cont_of, names, is_among}
+use Rattle.pattern_language.proofs.SetLemmas.{or_assoc}
 
 each : (es : List Element) → after_all (map (fold-Element (Pattern → Pattern) before) es) Done ≡ pattern_of es
 unfolding pattern_of element
@@ -62,3 +63,10 @@ pub rest_maybe : (es : List Element) (i : ℕ) (d : Element) (intro : Token) (bo
 rest_maybe es i d intro body span h is = rest_step es i d h ∙ ap (λ e. element e (pattern_of (drop (i + 1) es))) is ∙ element_maybe intro body span (pattern_of (drop (i + 1) es))
 
 pub ruleset rests = (rest_literal, rest_bind, rest_repeat, rest_maybe, rest_end)
+
+pub is_among-append : (xs ys : List Word) (w : Word) → is_among (xs ++ ys) w ≡ (is_among xs w || is_among ys w)
+unfolding is_among
+is_among-append [] ys w = refl
+is_among-append (x ∷ xs) ys w = ap (λ b. nat_eq x.0 w.0 || b) (is_among-append xs ys w) ∙ or_assoc (nat_eq x.0 w.0) (is_among xs w) (is_among ys w)
+
+pub ruleset among_lists = (is_among-append)

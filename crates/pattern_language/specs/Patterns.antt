@@ -81,3 +81,16 @@ names (Literal t p) = names p
 names (Bind kind name p) = name ∷ names p
 names (Repeat least sep body p) = names body ++ names p
 names (Maybe intro body p) = names body ++ names p
+
+-- one of the names is this word
+unfoldable pub is_among : List Word → Word → Bool
+is_among [] w = false
+is_among (name ∷ others) w = nat_eq name.0 w.0 || is_among others w
+
+-- some element is a binder, at any depth
+unfoldable pub holds_binder : Pattern → Bool
+holds_binder Done = false
+holds_binder (Literal t p) = holds_binder p
+holds_binder (Bind kind name p) = true
+holds_binder (Repeat least sep body p) = holds_binder body || holds_binder p
+holds_binder (Maybe intro body p) = holds_binder body || holds_binder p

@@ -1,5 +1,5 @@
 -- The rules by which the next token alone decides how a pattern goes on.
-use Rattle.std.specs.Prelude.{◌≡◌, ◌≢◌, ℕ, zero, suc, ◌+◌, ◌≤◌, ◌<◌, ◌⊎◌, Bool, true, false, ◌&&◌, ◌||◌, nat_eq, List, [], ◌∷◌, ◌++◌, length, Option, Some, None, All, Contains, IsTrue}
+use Rattle.std.specs.Prelude.{◌≡◌, ◌≢◌, ℕ, zero, suc, ◌+◌, ◌≤◌, ◌<◌, ◌⊎◌, Bool, true, false, ◌&&◌, ◌||◌, nat_eq, List, [], ◌∷◌, ◌++◌, length, Option, Some, None, All}
 use Rattle.c_tokens.specs.declared.token.Word.{Word}
 use Rattle.c_tokens.specs.declared.kind.Kind.{Kind}
 use Rattle.c_tokens.specs.declared.kind.Kind.TheVariants as t
@@ -8,7 +8,7 @@ use Rattle.c_tokens.specs.declared.kind.Base.TheVariants as b
 use Rattle.c_tokens.specs.declared.kind.MetaType.{MetaType}
 use Rattle.pattern_language.specs.Classes.{Classes, Meets, only, nothing}
 use Rattle.pattern_language.specs.Kinds.{cont, continuations}
-use Rattle.pattern_language.specs.Patterns.{Pattern, Done, Literal, Bind, Repeat, Maybe, token_class, can_be_empty, first_of, between, names}
+use Rattle.pattern_language.specs.Patterns.{Pattern, Done, Literal, Bind, Repeat, Maybe, token_class, can_be_empty, first_of, between, names, is_among, holds_binder}
 
 -- Where a list of elements stands: in how many repetitions and options, after which binders,
 -- what may follow the list, whether the end of the whole pattern may, and whether the list is the whole pattern.
@@ -69,12 +69,12 @@ BreaksP1 _ at = ⊥
 
 -- it is a binder and an earlier binder has its name
 abbrev pub BreaksP2 : Pattern → Place → Type 0
-BreaksP2 (Bind kind name p) at = Contains at.earlier name
+BreaksP2 (Bind kind name p) at = is_among at.earlier name ≡ true
 BreaksP2 _ at = ⊥
 
 -- the body holds no binder or can be empty
 abbrev pub IsIdle : Pattern → Type 0
-IsIdle body = (names body ≡ []) ⊎ (can_be_empty body ≡ true)
+IsIdle body = (holds_binder body ≡ false) ⊎ (can_be_empty body ≡ true)
 
 -- it is a repetition or an option whose body holds no binder or can be empty
 abbrev pub BreaksP3 : Pattern → Place → Type 0

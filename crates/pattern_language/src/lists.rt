@@ -1,7 +1,6 @@
 //! What lists of elements begin with, and what may go on with them.
 
-ghost use Rattle.std.specs.Prelude.{◌≡◌, ◌↔◌, IsTrue, []};
-ghost use Rattle.std.specs.List.{Contains};
+ghost use Rattle.std.specs.Prelude.{◌≡◌};
 ghost use Rattle.c_tokens.specs.declared.class.Class.{Class};
 ghost use Rattle.pattern_language.specs.Sets.{has};
 ghost use Rattle.pattern_language.specs.Patterns.{pattern_of, names};
@@ -89,9 +88,9 @@ pub fn cont_of(pattern: &[Element]) -> ClassSet
 }
 
 /// Whether a binder of the elements, at any depth, has the name.
-#[tactic(auto, using(crate::proofs::Elements::rests), unfolding(crate::specs::Patterns::names))]
+#[tactic(auto, using(crate::proofs::Elements::rests, crate::proofs::SetLemmas::one_of_lists, crate::proofs::Elements::among_lists), unfolding(crate::specs::Patterns::names, crate::specs::Patterns::is_among))]
 pub(crate) fn has_name(pattern: &[Element], wanted: Word) -> bool
-    ensures { IsTrue result ↔ Contains (names (pattern_of pattern.now)) wanted }
+    ensures { result ≡ patterns.is_among (names (pattern_of pattern.now)) wanted }
 {
     for element in pattern {
         match element {
@@ -111,21 +110,21 @@ pub(crate) fn has_name(pattern: &[Element], wanted: Word) -> bool
     false
 }
 
-/// Whether the elements hold no binder, at no depth.
-#[tactic(auto, using(crate::proofs::Elements::rests), unfolding(crate::specs::Patterns::names))]
-pub(crate) fn has_no_binder(pattern: &[Element]) -> bool
-    ensures { IsTrue result ↔ (names (pattern_of pattern.now) ≡ []) }
+/// Whether the elements hold a binder, at any depth.
+#[tactic(auto, using(crate::proofs::Elements::rests, crate::proofs::SetLemmas::one_of_lists), unfolding(crate::specs::Patterns::holds_binder))]
+pub(crate) fn holds_binder(pattern: &[Element]) -> bool
+    ensures { result ≡ patterns.holds_binder (pattern_of pattern.now) }
 {
     for element in pattern {
         match element {
             Element::Literal { .. } => {}
-            Element::Bind { .. } => return false,
+            Element::Bind { .. } => return true,
             Element::Repeat { body, .. } | Element::Maybe { body, .. } => {
-                if !has_no_binder(body.as_slice()) {
-                    return false;
+                if holds_binder(body.as_slice()) {
+                    return true;
                 }
             }
         }
     }
-    true
+    false
 }
