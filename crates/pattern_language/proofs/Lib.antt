@@ -3,3 +3,4 @@ pub mod Bits
 pub mod SetLemmas
 pub mod Elements
 pub mod Below
+pub mod Before

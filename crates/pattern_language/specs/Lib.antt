@@ -3,3 +3,4 @@ pub mod Sets
 pub mod Kinds
 pub mod Patterns
 pub mod Rules
+pub mod Earlier

@@ -2,6 +2,7 @@
 #![tactic(auto)]
 
 mod class_set;
+mod earlier;
 mod kinds;
 mod lists;
 
