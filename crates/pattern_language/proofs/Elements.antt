@@ -1,16 +1,18 @@
 -- A pattern, element by element.
-use Rattle.std.proofs.Common.{◌≡◌, refl, ap, sym, ◌∙◌, ℕ, ◌+◌, ◌<◌, ◌≤◌, subst, List, [], ◌∷◌, ◌++◌, map, length, drop, take, get_or, arith, Option, Some, None, Bool, true, false, ◌&&◌, ◌||◌, nat_eq, drop-cons, add-one, length-drop}
+use Rattle.std.proofs.Common.{◌≡◌, suc, refl, ap, sym, ◌∙◌, ℕ, ◌+◌, ◌<◌, ◌≤◌, subst, List, [], ◌∷◌, ◌++◌, map, length, drop, take, get_or, arith, Option, Some, None, Bool, true, false, ◌&&◌, ◌||◌, nat_eq, drop-cons, add-one, length-drop}
 use Rattle.std.proofs.lemmas.List.{take_more}
+use Rattle.std.proofs.lemmas.Bool.Decides.{eqb_tells}
 use Rattle.c_tokens.specs.declared.token.Token.{Token}
 use Rattle.c_tokens.specs.declared.token.Word.{Word}
 use Rattle.c_tokens.specs.declared.kind.Kind.{Kind}
 use Rattle.c_tokens.specs.declared.span.Span.{Span}
 use Rattle.c_tokens.specs.declared.class.Class.{Class}
-use Rattle.c_tokens.specs.declared.element.Element.{Element, fold-Element, fold-roll-Element, roll-Element}
+use Rattle.c_tokens.specs.declared.element.Element.{Element, fold-Element, fold-roll-Element, roll-Element, out-Element, roll-out-Element}
 use Rattle.c_tokens.specs.declared.element.Element.TheOpen.{Element-F}
 use Rattle.c_tokens.specs.declared.element.Element.TheVariants as v
 use Rattle.c_tokens.specs.declared.element.Element.TheVariants.{rolls-Literal, rolls-Bind, rolls-Repeat, rolls-Maybe}
 use Rattle.pattern_language.specs.Patterns.{Pattern, Done, Literal, Bind, Repeat, Maybe, before, element, after_all, pattern_of, first_of, can_be_empty, cont_of, names, is_among}
+use Rattle.pattern_language.specs.Rules.{is_done}
 use Rattle.pattern_language.proofs.SetLemmas.{or_assoc}
 
 each : (es : List Element) → after_all (map (fold-Element (Pattern → Pattern) before) es) Done ≡ pattern_of es
@@ -35,6 +37,8 @@ pub element_maybe : (intro : Token) (body : List Element) (span : Span) (p : Pat
 unfolding element
 element_maybe intro body span p = ap (λ e. element e p) (sym (rolls-Maybe intro body span)) ∙ ap (λ f. f p) (fold-roll-Element (Pattern → Pattern) before (Element-F.Maybe intro body span))
     ∙ ap (λ b. Maybe intro b p) (each body)
+
+pub ruleset forms = (element_literal, element_bind, element_repeat, element_maybe)
 
 pub pattern_empty : (es : List Element) → length es ≡ 0 → pattern_of es ≡ Done
 unfolding pattern_of
@@ -70,3 +74,24 @@ is_among-append [] ys w = refl
 is_among-append (x ∷ xs) ys w = ap (λ b. nat_eq x.0 w.0 || b) (is_among-append xs ys w) ∙ or_assoc (nat_eq x.0 w.0) (is_among xs w) (is_among ys w)
 
 pub ruleset among_lists = (is_among-append)
+
+-- ---- no element is the end
+
+not_done_at : (l : Element-F Element) (p : Pattern) → is_done (element (roll-Element l) p) ≡ false
+not_done_at (Element-F.Literal t) p = rw (rolls-Literal t, element_literal t p) refl
+not_done_at (Element-F.Bind kind name span) p = rw (rolls-Bind kind name span, element_bind kind name span p) refl
+not_done_at (Element-F.Repeat least sep body span) p = rw (rolls-Repeat least sep body span, element_repeat least sep body span p) refl
+not_done_at (Element-F.Maybe intro body span) p = rw (rolls-Maybe intro body span, element_maybe intro body span p) refl
+
+not_done : (e : Element) (p : Pattern) → is_done (element e p) ≡ false
+not_done e p = rw roll-out-Element at (not_done_at (out-Element e) p)
+
+not_zero : (n : ℕ) → nat_eq (suc n) 0 ≡ false
+not_zero n = grind (arith, eqb_tells (suc n) 0)
+
+pub is_done_is : (es : List Element) → is_done (pattern_of es) ≡ nat_eq (length es) 0
+unfolding pattern_of
+is_done_is [] = refl
+is_done_is (e ∷ es) = not_done e (pattern_of es) ∙ sym (not_zero (length es))
+
+pub ruleset dones = (is_done_is)

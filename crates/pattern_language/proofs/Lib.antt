@@ -4,3 +4,5 @@ pub mod SetLemmas
 pub mod Elements
 pub mod Below
 pub mod Before
+pub mod Meeting
+pub mod Insides

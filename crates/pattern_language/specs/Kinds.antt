@@ -1,5 +1,5 @@
 -- With which classes of tokens a tree of a kind begins, and which may go on with it.
-use Rattle.std.specs.Prelude.{Bool, List, [], ◌∷◌, ◌++◌}
+use Rattle.std.specs.Prelude.{Bool, true, false, List, [], ◌∷◌, ◌++◌}
 use Rattle.c_tokens.specs.declared.token.Key.TheVariants as k
 use Rattle.c_tokens.specs.declared.token.Punct.TheVariants as p
 use Rattle.c_tokens.specs.declared.kind.Kind.{Kind}
@@ -80,3 +80,7 @@ first kind = one_of (beginnings kind)
 -- Cont of a kind
 abbrev pub cont : Kind → Classes
 cont kind = one_of (continuations kind)
+
+abbrev pub is_some_class : List Class → Bool
+is_some_class [] = false
+is_some_class (c ∷ others) = true

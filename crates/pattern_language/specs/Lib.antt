@@ -4,3 +4,4 @@ pub mod Kinds
 pub mod Patterns
 pub mod Rules
 pub mod Earlier
+pub mod Contexts

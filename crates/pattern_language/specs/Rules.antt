@@ -1,13 +1,15 @@
 -- The rules by which the next token alone decides how a pattern goes on.
-use Rattle.std.specs.Prelude.{◌≡◌, ◌≢◌, ℕ, zero, suc, ◌+◌, ◌≤◌, ◌<◌, ◌⊎◌, Bool, true, false, ◌&&◌, ◌||◌, nat_eq, List, [], ◌∷◌, ◌++◌, length, Option, Some, None, All}
+use Rattle.std.specs.Prelude.{◌≡◌, ℕ, ◌+◌, ◌≤◌, ◌<◌, ◌⊎◌, Bool, true, false, ◌&&◌, ◌||◌, nat_le, List, [], ◌∷◌, ◌++◌, length, Option, MatchOption, All}
+use Rattle.c_tokens.specs.declared.token.Token.{Token}
 use Rattle.c_tokens.specs.declared.token.Word.{Word}
 use Rattle.c_tokens.specs.declared.kind.Kind.{Kind}
 use Rattle.c_tokens.specs.declared.kind.Kind.TheVariants as t
+use Rattle.c_tokens.specs.Kinds.{is_same_kind}
 use Rattle.c_tokens.specs.declared.kind.Base.{Base}
 use Rattle.c_tokens.specs.declared.kind.Base.TheVariants as b
 use Rattle.c_tokens.specs.declared.kind.MetaType.{MetaType}
 use Rattle.pattern_language.specs.Classes.{Classes, Meets, only, nothing}
-use Rattle.pattern_language.specs.Kinds.{cont, continuations}
+use Rattle.pattern_language.specs.Kinds.{cont, continuations, is_some_class}
 use Rattle.pattern_language.specs.Patterns.{Pattern, Done, Literal, Bind, Repeat, Maybe, token_class, can_be_empty, first_of, between, names, is_among, holds_binder}
 
 -- Where a list of elements stands: in how many repetitions and options, after which binders,
@@ -30,11 +32,9 @@ next p at c = first_of p c || (can_be_empty p && at.follow c)
 abbrev pub reaches_end : Pattern → Place → Bool
 reaches_end p at = can_be_empty p && at.ends
 
-abbrev pub after_binder : Word → Place → Place
-after_binder name at = record at { earlier = at.earlier ++ name ∷ [] }
-
-abbrev pub after_body : Pattern → Place → Place
-after_body body at = record at { earlier = at.earlier ++ names body }
+-- after binders of these names
+abbrev pub after : List Word → Place → Place
+after binders at = record at { earlier = at.earlier ++ binders }
 
 -- in the body of a repetition with this separator, before these elements
 abbrev pub in_repetition : Option Token → Pattern → Pattern → Place → Place
@@ -53,11 +53,11 @@ pub record Site : Type 0 where
 unfoldable pub sites : Pattern → Place → List Site
 sites Done at = []
 sites (Literal t p) at = record { pattern = Literal t p; place = at } ∷ sites p at
-sites (Bind kind name p) at = record { pattern = Bind kind name p; place = at } ∷ sites p (after_binder name at)
+sites (Bind kind name p) at = record { pattern = Bind kind name p; place = at } ∷ sites p (after (name ∷ []) at)
 sites (Repeat least sep body p) at =
-    record { pattern = Repeat least sep body p; place = at } ∷ (sites body (in_repetition sep body p at) ++ sites p (after_body body at))
+    record { pattern = Repeat least sep body p; place = at } ∷ (sites body (in_repetition sep body p at) ++ sites p (after (names body) at))
 sites (Maybe intro body p) at =
-    record { pattern = Maybe intro body p; place = at } ∷ (sites body (in_option p at) ++ sites p (after_body body at))
+    record { pattern = Maybe intro body p; place = at } ∷ (sites body (in_option p at) ++ sites p (after (names body) at))
 
 -- ---- the rules, by when an element breaks them
 
@@ -93,17 +93,29 @@ BreaksP5 (Repeat least sep body p) at = Meets (between sep body) (next p at) ⊎
 BreaksP5 (Maybe intro body p) at = next p at (token_class intro) ≡ true
 BreaksP5 _ at = ⊥
 
+-- something may go on with a tree of the kind
+abbrev pub can_go_on : Kind → Bool
+can_go_on kind = is_some_class (continuations kind)
+
+abbrev pub is_tree_of : Kind → Base → Bool
+is_tree_of kind (b.Tree other) = is_same_kind other kind
+is_tree_of kind _ = false
+
 -- a statement or a list of statements
-abbrev pub IsStatements : MetaType → Type 0
-IsStatements result = (result.base ≡ b.Tree t.Stmt) × (result.lists ≤ 1)
+abbrev pub is_statements : MetaType → Bool
+is_statements result = is_tree_of t.Stmt result.base && nat_le result.lists 1
+
+abbrev pub is_done : Pattern → Bool
+is_done Done = true
+is_done _ = false
 
 -- the last element of the whole pattern may be a statement's binder where the result is one or more statements
-abbrev pub IsLastStatement : MetaType → Kind → Pattern → Place → Type 0
-IsLastStatement result kind p at = (at.whole ≡ true) × (p ≡ Done) × (kind ≡ t.Stmt) × IsStatements result
+abbrev pub is_last_statement : MetaType → Kind → Pattern → Place → Bool
+is_last_statement result kind p at = at.whole && is_done p && is_same_kind kind t.Stmt && is_statements result
 
 -- its Next reaches the end, and it is a repetition, an option, or a binder with which something may go on
 abbrev pub BreaksP6 : MetaType → Pattern → Place → Type 0
-BreaksP6 result (Bind kind name p) at = (reaches_end p at ≡ true) × (continuations kind ≢ []) × ¬ IsLastStatement result kind p at
+BreaksP6 result (Bind kind name p) at = (reaches_end p at ≡ true) × (can_go_on kind ≡ true) × (is_last_statement result kind p at ≡ false)
 BreaksP6 result (Repeat least sep body p) at = reaches_end p at ≡ true
 BreaksP6 result (Maybe intro body p) at = reaches_end p at ≡ true
 BreaksP6 result _ at = ⊥
@@ -145,6 +157,11 @@ pub record IsLowest (result : MetaType) (s : Site) (number : ℕ) : Type 0 where
   pub is : rule_number rule ≡ number
   pub breaks : Breaks rule result s
   pub lowest : (other : Rule) → rule_number other < number → ¬ Breaks other result s
+
+-- the lowest rule that the element breaks, if it breaks one
+abbrev pub IsJudged : MetaType → Pattern → Place → Option ℕ → Type 0
+IsJudged result p at answer =
+    let site : Site = record { pattern = p; place = at } in MatchOption answer (Keeps result site) (λ number. IsLowest result site number)
 
 -- The first element that breaks a rule has this number, counted from 0, and this is the lowest rule that it breaks.
 pub record IsFirstBreak (result : MetaType) (all : List Site) (element number : ℕ) : Type 0 where

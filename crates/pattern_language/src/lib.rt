@@ -3,8 +3,11 @@
 
 mod class_set;
 mod earlier;
+mod fit;
 mod kinds;
 mod lists;
+
+mod rules;
 
 pub use class_set::ClassSet;
 pub use kinds::{cont, first};
