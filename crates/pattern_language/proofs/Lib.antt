@@ -6,3 +6,4 @@ pub mod Below
 pub mod Before
 pub mod Meeting
 pub mod Insides
+pub mod Passing

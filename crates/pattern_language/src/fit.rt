@@ -2,7 +2,7 @@
 
 ghost use Rattle.std.specs.Prelude.{◌≡◌, ◌<◌, ◌+◌, ◌-◌, ◌^◌, length, min, IfOk, IfErr};
 ghost use Rattle.pattern_language.specs.Patterns.{pattern_of};
-ghost use Rattle.pattern_language.specs.Rules.{sites, IsJudged};
+ghost use Rattle.pattern_language.specs.Rules.{sites};
 ghost use Rattle.pattern_language.specs.Contexts.{place_of, Passes, Fails};
 
 use crate::earlier::Earlier;
@@ -35,16 +35,18 @@ fn check_list(
             earlier: &earlier,
             ..*context
         };
+        let element = &elements[at];
         let after = &elements[at + 1..];
-        if let Some(rule) = broken_rule(&elements[at], after, &here, result_type) {
+        if let Some(rule) = broken_rule(element, after, &here, result_type) {
             return Err(PatternFault {
                 element: number,
                 rule,
             });
         }
         number = number.saturating_add(1);
-        match &elements[at] {
-            Element::Literal { .. } | Element::Bind { .. } => {}
+        match element {
+            Element::Literal { .. } => {}
+            Element::Bind { .. } => {}
             Element::Repeat { sep, body, .. } => {
                 let inside = in_repetition(sep, body.as_slice(), after, &here);
                 number = check_list(body.as_slice(), &inside, result_type, number)?;
