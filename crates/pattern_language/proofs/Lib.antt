@@ -7,3 +7,4 @@ pub mod Before
 pub mod Meeting
 pub mod Insides
 pub mod Passing
+pub mod Turns
