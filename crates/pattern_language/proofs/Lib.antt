@@ -8,3 +8,4 @@ pub mod Meeting
 pub mod Insides
 pub mod Passing
 pub mod Turns
+pub mod Starts

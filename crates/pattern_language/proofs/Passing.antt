@@ -10,7 +10,7 @@ use Rattle.c_tokens.specs.declared.element.Element.TheOpen.{Element-F}
 use Rattle.c_tokens.specs.declared.element.Element.TheVariants.{rolls-Literal, rolls-Bind, rolls-Repeat, rolls-Maybe}
 use Rattle.pattern_language.specs.Patterns.{Pattern, Done, Literal, Bind, Repeat, Maybe, element, pattern_of, names}
 use Rattle.pattern_language.specs.Rules.{Place, Site, after, sites, in_repetition, in_option, Keeps, IsLowest, IsFirstBreak, IsJudged}
-use Rattle.pattern_language.specs.Contexts.{Passes, Fails}
+use Rattle.pattern_language.specs.Rules.{Passes, Fails}
 use Rattle.pattern_language.proofs.Elements.{element_literal, element_bind, element_repeat, element_maybe, rest_step, rest_end}
 
 -- ---- a pattern's first element

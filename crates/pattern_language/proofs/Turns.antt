@@ -10,7 +10,7 @@ use Rattle.c_tokens.specs.declared.element.Element.{Element}
 use Rattle.c_tokens.specs.declared.element.Element.TheVariants as v
 use Rattle.pattern_language.specs.Patterns.{Pattern, element, pattern_of}
 use Rattle.pattern_language.specs.Rules.{Place, Site, sites, in_repetition, in_option, Keeps, IsJudged, P1}
-use Rattle.pattern_language.specs.Contexts.{Passes, Fails}
+use Rattle.pattern_language.specs.Rules.{Passes, Fails}
 use Rattle.pattern_language.proofs.Elements.{element_literal, element_bind, element_repeat, element_maybe}
 use Rattle.pattern_language.proofs.Passing.{Passed, passed_more, passed_break, site, inner, left, place_at, at_element, element_breaks, element_keeps}
 
@@ -79,9 +79,9 @@ after_binder result all rest e kind name span p q first number more h w same =
     subst P (sym same) (with_inner result all (inner (element e p) q) [] rest first number (inner_bind e kind name span p q h) w)
 
 -- the sites of a body, as the call in it names them
-pub after_inner : (result : MetaType) (all own body rest : List Site) (first number more : ℕ) → own ≡ body → Passed result all (own ++ rest) first number → Passes result body number more → Passed result all rest first more
-after_inner result all own body rest first number more h w passes =
-    passed_more result all body rest first number more (with_inner result all own body rest first number h w) passes.keeps passes.next
+pub after_inner : (result : MetaType) (all own body rest : List Site) (first number more last : ℕ) → own ≡ body → Passed result all (own ++ rest) first number → Passes result body number more → last ≡ more → Passed result all rest first last
+after_inner result all own body rest first number more last h w passes same =
+    passed_more result all body rest first number last (with_inner result all own body rest first number h w) passes.keeps (same ∙ passes.next)
 
 pub in_inner : (result : MetaType) (all own body rest : List Site) (first number more rule : ℕ) → own ≡ body → Passed result all (own ++ rest) first number → Fails result body number more rule → Fails result all first more rule
 in_inner result all own body rest first number more rule h w fails =

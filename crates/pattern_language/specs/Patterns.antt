@@ -1,6 +1,8 @@
 -- Patterns as lists of elements: what they begin with, what goes on with them, and what may follow each element.
-use Rattle.std.specs.Prelude.{ℕ, zero, ◌+◌, Bool, true, false, ◌&&◌, ◌||◌, nat_eq, List, [], ◌∷◌, ◌++◌, Option, Some, None}
+use Rattle.std.specs.Prelude.{ℕ, zero, ◌+◌, Bool, true, false, ◌&&◌, ◌||◌, nat_eq, nat_le, List, [], ◌∷◌, ◌++◌, Option, Some, None}
 use Rattle.c_tokens.specs.declared.token.Token.{Token}
+use Rattle.c_tokens.specs.declared.token.Shape.{Shape}
+use Rattle.c_tokens.specs.declared.token.Shape.TheVariants as s
 use Rattle.c_tokens.specs.declared.token.Word.{Word}
 use Rattle.c_tokens.specs.declared.kind.Kind.{Kind}
 use Rattle.c_tokens.specs.declared.class.Class.{Class}
@@ -94,3 +96,22 @@ holds_binder (Literal t p) = holds_binder p
 holds_binder (Bind kind name p) = true
 holds_binder (Repeat least sep body p) = holds_binder body || holds_binder p
 holds_binder (Maybe intro body p) = holds_binder body || holds_binder p
+
+-- it is a keyword, a punctuator or a word
+abbrev pub is_spelled : Shape → Bool
+is_spelled (s.Key k) = true
+is_spelled (s.Punct p) = true
+is_spelled (s.Word w) = true
+is_spelled _ = false
+
+abbrev pub is_separator : Option Token → Bool
+is_separator None = true
+is_separator (Some sep) = is_spelled sep.shape
+
+-- each literal, separator and intro is a keyword, a punctuator or a word, and each repetition is written for none or one at least
+unfoldable pub is_plain : Pattern → Bool
+is_plain Done = true
+is_plain (Literal t p) = is_spelled t.shape && is_plain p
+is_plain (Bind kind name p) = is_plain p
+is_plain (Repeat least sep body p) = nat_le least 1 && is_separator sep && is_plain body && is_plain p
+is_plain (Maybe intro body p) = is_spelled intro.shape && is_plain body && is_plain p

@@ -1,5 +1,5 @@
 -- The rules by which the next token alone decides how a pattern goes on.
-use Rattle.std.specs.Prelude.{◌≡◌, ℕ, ◌+◌, ◌≤◌, ◌<◌, ◌⊎◌, Bool, true, false, ◌&&◌, ◌||◌, nat_le, List, [], ◌∷◌, ◌++◌, length, Option, MatchOption, All}
+use Rattle.std.specs.Prelude.{◌≡◌, ℕ, ◌+◌, ◌-◌, ◌^◌, min, ◌≤◌, ◌<◌, ◌⊎◌, Bool, true, false, ◌&&◌, ◌||◌, nat_le, List, [], ◌∷◌, ◌++◌, length, Option, MatchOption, All}
 use Rattle.c_tokens.specs.declared.token.Token.{Token}
 use Rattle.c_tokens.specs.declared.token.Word.{Word}
 use Rattle.c_tokens.specs.declared.kind.Kind.{Kind}
@@ -172,3 +172,15 @@ pub record IsFirstBreak (result : MetaType) (all : List Site) (element number : 
   pub place : length kept ≡ element
   pub keeps : All (Keeps result) kept
   pub lowest : IsLowest result site number
+
+-- All elements of these sites keep the rules. Where the first is element number `first`, the next after them has this number,
+-- or the largest number there is.
+pub record Passes (result : MetaType) (all : List Site) (first number : ℕ) : Type 0 where
+  pub keeps : All (Keeps result) all
+  pub next : number ≡ min (first + length all) (2 ^ 64 - 1)
+
+-- The first element that breaks a rule has this number, or the largest number there is.
+pub record Fails (result : MetaType) (all : List Site) (first number rule : ℕ) : Type 0 where
+  pub place : ℕ
+  pub breaks : IsFirstBreak result all place rule
+  pub is : number ≡ min (first + place) (2 ^ 64 - 1)

@@ -1,13 +1,14 @@
 //! Patterns in which one token decides how they go on.
 
-ghost use Rattle.std.specs.Prelude.{◌≡◌, ◌<◌, ◌+◌, ◌-◌, ◌^◌, length, min, IfOk, IfErr};
-ghost use Rattle.pattern_language.specs.Patterns.{pattern_of};
-ghost use Rattle.pattern_language.specs.Rules.{sites};
-ghost use Rattle.pattern_language.specs.Contexts.{place_of, Passes, Fails};
+ghost use Rattle.std.specs.Prelude.{◌≡◌, IsTrue, IfOk, IfErr};
+ghost use Rattle.pattern_language.specs.Patterns.{pattern_of, is_plain};
+ghost use Rattle.pattern_language.specs.Rules.{sites, start, IsFit, Passes, Fails};
+ghost use Rattle.pattern_language.specs.Contexts.{place_of};
 
+use crate::class_set::ClassSet;
 use crate::earlier::Earlier;
 use crate::rules::{Context, broken_rule, in_option, in_repetition};
-use c_tokens::{Element, MetaType};
+use c_tokens::{Element, List, MetaType};
 
 /// Which element breaks which rule. Elements are counted from 0 in the order of writing, an outer
 /// one before its inner ones; a number that does not fit is the largest one.
@@ -58,4 +59,52 @@ fn check_list(
         }
     }
     Ok(number)
+}
+
+/// A pattern whose elements break no rule where it is that of a macro with the result. Only
+/// `check` makes one.
+#[derive(Debug, Drop)]
+pub struct Fit {
+    elements: List<Element>,
+    result_type: MetaType,
+    pub ghost plain: { IsTrue (is_plain (pattern_of elements)) },
+    pub ghost fits: { IsFit result_type (pattern_of elements) },
+}
+
+/// Whether one token decides everywhere in a pattern of a macro with this result.
+#[tactic(auto, using(crate::proofs::Starts::starts))]
+pub fn check(pattern: List<Element>, result_type: MetaType) -> Result<Fit, PatternFault>
+    requires { IsTrue (is_plain (pattern_of pattern)) }
+    ensures ok { IfOk result (λ fit. (fit.elements ≡ pattern) × (fit.result_type ≡ result_type)) }
+    ensures fit { IfOk result (λ _. IsFit result_type (pattern_of pattern)) }
+    ensures fault { IfErr result (λ fault. Fails result_type (sites (pattern_of pattern) start) 0 fault.element fault.rule) }
+{
+    let earlier = Earlier::Nothing;
+    let context = Context {
+        depth: 0,
+        earlier: &earlier,
+        follow: ClassSet::empty(),
+        ends: true,
+        whole: true,
+    };
+    check_list(pattern.items(), &context, result_type, 0)?;
+    Ok(Fit {
+        elements: pattern,
+        result_type,
+    })
+}
+
+impl Fit {
+    pub fn elements(&self) -> &[Element]
+        ensures { result.now ≡ self.now.elements }
+    {
+        self.elements.items()
+    }
+
+    pub fn into_elements(self) -> List<Element>
+        ensures { result ≡ self.elements }
+    {
+        let Fit { elements, .. } = self;
+        elements
+    }
 }

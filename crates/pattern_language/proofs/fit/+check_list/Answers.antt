@@ -2,7 +2,8 @@ use Rattle.std.proofs.Common.{rules, ◌≡◌, ◌<◌, ◌+◌, ◌-◌, ◌^�
 use Rattle.std.proofs.lemmas.List.{take_rest}
 use Rattle.pattern_language.specs.Patterns.{pattern_of}
 use Rattle.pattern_language.specs.Rules.{Place, sites}
-use Rattle.pattern_language.specs.Contexts.{place_of, Passes, Fails}
+use Rattle.pattern_language.specs.Contexts.{place_of}
+use Rattle.pattern_language.specs.Rules.{Passes, Fails}
 use Rattle.pattern_language.proofs.Before.{before_elements}
 use Rattle.pattern_language.proofs.Passing.{list_starts, list_ends, place_at, at_element, inner, left}
 use Rattle.pattern_language.proofs.Turns.{Here, breaks_here, keeps_here, after_literal, after_binder, after_inner, in_inner, sites_of_repetition, sites_of_option, few_repetition, few_option}
@@ -104,8 +105,9 @@ loop-at-preserved t c =
           place = ap (λ e. let q : Place = record (place_of c.args.context.now) { earlier = e } in q) (before_elements _ _)
         })
         w.in-Repeat.is w.as_slice.ensures w.as_slice-in-Repeat.ensures w.in_repetition-inside.ensures in
-        let ens = w.in_ok-number-in-Repeat.ensures.ok in let is = w.number-is in
-        ?
+        after_inner c.args.result_type (sites (pattern_of c.args.elements.now) (place_of c.args.context.now)) (inner (at_element c.args.elements.now c.loop-at.at c.index-elements-at.result) (place_at c.args.elements.now c.loop-at.at (place_of c.args.context.now)))
+            (sites (pattern_of w.as_slice-in-Repeat.result.now) (place_of w.in_repetition-inside.result)) (left c.args.elements.now (c.loop-at.at + 1) (place_of c.args.context.now))
+            c.args.first c.saturating_add-number.result w.in_ok-number-in-Repeat.number c.match-element.number same kept w.in_ok-number-in-Repeat.ensures.ok w.number-is
     | in-Maybe+in_ok-number-in-Maybe w ↦
         let same = sites_of_option c.args.elements.now c.loop-at.at (place_of c.args.context.now) c.index-elements-at.result (take (length c.args.elements.now - (c.loop-at.at + 1)) (drop (c.loop-at.at + 1) c.args.elements.now)) _ w.in-Maybe.intro w.in-Maybe.body w.as_slice-in-Maybe.result.now w.in-Maybe.span (place_of w.in_option-inside.result)
         (record {
@@ -115,6 +117,7 @@ loop-at-preserved t c =
           place = ap (λ e. let q : Place = record (place_of c.args.context.now) { earlier = e } in q) (before_elements _ _)
         })
         w.in-Maybe.is w.as_slice-in-Maybe.ensures w.in_option-inside.ensures in
-        let ens = w.in_ok-number-in-Maybe.ensures.ok in let is = w.number-is in
-        ?
+        after_inner c.args.result_type (sites (pattern_of c.args.elements.now) (place_of c.args.context.now)) (inner (at_element c.args.elements.now c.loop-at.at c.index-elements-at.result) (place_at c.args.elements.now c.loop-at.at (place_of c.args.context.now)))
+            (sites (pattern_of w.as_slice-in-Maybe.result.now) (place_of w.in_option-inside.result)) (left c.args.elements.now (c.loop-at.at + 1) (place_of c.args.context.now))
+            c.args.first c.saturating_add-number.result w.in_ok-number-in-Maybe.number c.match-element.number same kept w.in_ok-number-in-Maybe.ensures.ok w.number-is
     ]
