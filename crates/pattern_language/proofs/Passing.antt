@@ -124,11 +124,11 @@ passed_end result all first number w =
 pub passed_break : (result : MetaType) (all own rest : List Site) (first number place more rule : ℕ) → Passed result all (own ++ rest) first number → IsFirstBreak result own place rule → more ≡ min (number + place) (2 ^ 64 - 1) → Fails result all first more rule
 passed_break result all own rest first number place more rule w b e =
     let split : all ≡ (w.done ++ b.kept) ++ b.site ∷ (b.others ++ rest) =
-        w.split ∙ ap (λ s. w.done ++ (s ++ rest)) b.split ∙ ap (λ s. w.done ++ s) (append_assoc b.kept (b.site ∷ b.others) rest) ∙ sym (append_assoc w.done b.kept (b.site ∷ (b.others ++ rest))) in
+    w.split ∙ ap (λ s. w.done ++ (s ++ rest)) b.split ∙ ap (λ s. w.done ++ s) (append_assoc b.kept (b.site ∷ b.others) rest) ∙ sym (append_assoc w.done b.kept (b.site ∷ (b.others ++ rest))) in
     record {
       place = length w.done + place;
       breaks = record { kept = w.done ++ b.kept; site = b.site; others = b.others ++ rest; split = split; place = length-append w.done b.kept ∙ ap (λ n. length w.done + n) b.place; keeps = All-append (Keeps result) w.done b.kept w.keeps b.keeps; lowest = b.lowest };
-      is = omega arith
+      is = omega arith;
     }
 
 -- ---- one element
@@ -145,7 +145,7 @@ here_keeps result all rest p at first number more w h e = passed_more result all
 pub here_breaks : (result : MetaType) (all rest : List Site) (p : Pattern) (at : Place) (first number rule : ℕ) → number < 2 ^ 64 → Passed result all (site p at ∷ rest) first number → IsLowest result (site p at) rule → Fails result all first number rule
 here_breaks result all rest p at first number rule small w h =
     passed_break result all (site p at ∷ []) rest first number 0 number rule w
-        (record { kept = []; site = site p at; others = []; split = refl; place = refl; keeps = none_breaks result; lowest = h }) (omega arith)
+    (record { kept = []; site = site p at; others = []; split = refl; place = refl; keeps = none_breaks result; lowest = h }) (omega arith)
 
 start_left : (es : List Element) (at : Place) → left es 0 at ≡ sites (pattern_of es) at
 unfolding pattern_of names

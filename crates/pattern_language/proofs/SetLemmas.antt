@@ -37,8 +37,8 @@ below n h = grind (arith, nat_tests)
 
 pub common_at : (xs : List Class) (i : ℕ) (d : Class) → IsTrue (list_all is_common xs) → i < length xs → class_number (get_or xs i d) < 128
 common_at xs i d all h = elim (true_or_false (is_common (get_or xs i d))) [
-      inl holds ↦ below (class_number (get_or xs i d)) holds
-    | inr fails ↦ absurd (cc (all, list_all_at is_common xs i d h fails))
-    ]
+  | inl holds ↦ below (class_number (get_or xs i d)) holds
+  | inr fails ↦ absurd (cc (all, list_all_at is_common xs i d h fails))
+]
 
 pub ruleset one_of_lists = (one_of-append, or_false, or_assoc)

@@ -95,7 +95,7 @@ sites_of_repetition es i at e later q least sep body slice other span inside her
     inner_repeat (get_or es i e) least sep body span (pattern_of (drop (i + 1) es)) (place_at es i at) (sym here.is ∙ is)
     ∙ ap (λ xs. sites (pattern_of xs) (in_repetition sep (pattern_of body) (pattern_of (drop (i + 1) es)) (place_at es i at))) (sym again)
     ∙ ap (λ k. sites (pattern_of other) k) (sym (in_ ∙ ap (λ xs. in_repetition sep (pattern_of xs) (pattern_of later) q) same
-        ∙ ap (λ xs. in_repetition sep (pattern_of body) (pattern_of xs) q) here.others ∙ ap (λ k. in_repetition sep (pattern_of body) (pattern_of (drop (i + 1) es)) k) here.place))
+    ∙ ap (λ xs. in_repetition sep (pattern_of body) (pattern_of xs) q) here.others ∙ ap (λ k. in_repetition sep (pattern_of body) (pattern_of (drop (i + 1) es)) k) here.place))
 
 pub sites_of_option : (es : List Element) (i : ℕ) (at : Place) (e : Element) (later : List Element) (q : Place) (intro : Token) (body other : List Element) (span : Span) (inside : Place) →
     Here es i at e later q → e ≡ v.Maybe intro body span → other ≡ body → inside ≡ in_option (pattern_of later) q →

@@ -74,7 +74,12 @@ pub fn cont_of(pattern: &[Element]) -> ClassSet
         match element {
             Element::Literal { .. } => set = ClassSet::empty(),
             Element::Bind { kind, .. } => set = cont(*kind),
-            Element::Repeat { least, sep, body, .. } => {
+            Element::Repeat {
+                least,
+                sep,
+                body,
+                ..
+            } => {
                 let more = cont_of(body.as_slice()).union(between(sep, body.as_slice()));
                 set = if *least == 0 { set.union(more) } else { more };
             }

@@ -191,7 +191,10 @@ pub(crate) fn broken_rule(
             broken_by_binder(*kind, *name, after, context, result_type)
         }
         Element::Repeat {
-            least, sep, body, ..
+            least,
+            sep,
+            body,
+            ..
         } => broken_by_repetition(*least, sep, body.as_slice(), after, context, result_type),
         Element::Maybe { intro, body, .. } => {
             broken_by_option(intro, body.as_slice(), after, context, result_type)

@@ -38,50 +38,50 @@ loop-element-preserved t c = λ class.
     let empty = can_be_empty later in
     let all = cont_of (pattern_of c.args.pattern.now) class in
     elim c.match-element.branch [
-      in-Literal w ↦
-        let at = rest_literal c.args.pattern.now c.loop-element.element-index c.element-item.result w.in-Literal.token c.loop-element-test.true (sym c.element-item.is ∙ w.in-Literal.is) in
-        begun (has c.match-element.set class) (has c.loop-element.set class) empty (cont_of later class) (can_be_empty here) (cont_of here class) all
-            (ap can_be_empty at)
-            (ap (λ p. cont_of p class) at ∙ sym (nothing_more empty (has c.match-element.set class) (cont_of later class) (ap (λ s. has s class) w.set-is ∙ w.empty-set-in-Literal.ensures class)))
-            (c.loop-element.invariant class)
-    | in-Bind w ↦
-        let at = rest_bind c.args.pattern.now c.loop-element.element-index c.element-item.result w.in-Bind.kind w.in-Bind.name w.in-Bind.span c.loop-element-test.true (sym c.element-item.is ∙ w.in-Bind.is) in
-        begun (has c.match-element.set class) (has c.loop-element.set class) empty (cont_of later class) (can_be_empty here) (cont_of here class) all
-            (ap can_be_empty at)
-            (ap (λ p. cont_of p class) at ∙ sym (ap (λ b. (empty && b) || cont_of later class) (ap (λ s. has s class) w.set-is ∙ w.cont-set.ensures class)))
-            (c.loop-element.invariant class)
-    | in-Repeat+then-least-eq0 w ↦
-        let at = rest_repeat c.args.pattern.now c.loop-element.element-index c.element-item.result w.in-Repeat.least w.in-Repeat.sep w.in-Repeat.body w.in-Repeat.span c.loop-element-test.true (sym c.element-item.is ∙ w.in-Repeat.is) in
-        let body = pattern_of w.in-Repeat.body in
-        let gives = cont_of body class || between w.in-Repeat.sep body class in
-        let of_body : has w.cont_of.result class ≡ cont_of body class = w.cont_of.ensures class ∙ ap (λ b. cont_of (pattern_of b) class) w.as_slice.ensures in
-        let of_between : has w.between.result class ≡ between w.in-Repeat.sep body class = w.between.ensures class ∙ ap (λ b. between w.in-Repeat.sep (pattern_of b) class) w.as_slice-in-Repeat.ensures in
-        let more : has w.union-more.result class ≡ gives = w.union-more.ensures class ∙ ap (λ b. b || has w.between.result class) of_body ∙ ap (λ b. cont_of body class || b) of_between in
-        skipped (has c.match-element.set class) (has c.loop-element.set class) gives empty (cont_of later class) (can_be_empty here) (cont_of here class) all
-            (ap (λ s. has s class) w.set-is ∙ w.union-set.ensures class ∙ ap (λ b. has c.loop-element.set class || b) more)
-            (ap can_be_empty at ∙ ap (λ n. nat_eq n 0 && empty) w.if-least-eq0.true)
-            (ap (λ p. cont_of p class) at)
-            (c.loop-element.invariant class)
-    | in-Repeat+else-least-eq0 w ↦
-        let at = rest_repeat c.args.pattern.now c.loop-element.element-index c.element-item.result w.in-Repeat.least w.in-Repeat.sep w.in-Repeat.body w.in-Repeat.span c.loop-element-test.true (sym c.element-item.is ∙ w.in-Repeat.is) in
-        let body = pattern_of w.in-Repeat.body in
-        let gives = cont_of body class || between w.in-Repeat.sep body class in
-        let of_body : has w.cont_of.result class ≡ cont_of body class = w.cont_of.ensures class ∙ ap (λ b. cont_of (pattern_of b) class) w.as_slice.ensures in
-        let of_between : has w.between.result class ≡ between w.in-Repeat.sep body class = w.between.ensures class ∙ ap (λ b. between w.in-Repeat.sep (pattern_of b) class) w.as_slice-in-Repeat.ensures in
-        let more : has w.union-more.result class ≡ gives = w.union-more.ensures class ∙ ap (λ b. b || has w.between.result class) of_body ∙ ap (λ b. cont_of body class || b) of_between in
-        begun (has c.match-element.set class) (has c.loop-element.set class) empty (cont_of later class) (can_be_empty here) (cont_of here class) all
-            (ap can_be_empty at ∙ ap (λ b. b && empty) (not_zero w.in-Repeat.least w.if-least-eq0.false))
-            (ap (λ p. cont_of p class) at ∙ sym (ap (λ b. (empty && b) || cont_of later class) (ap (λ s. has s class) w.set-is ∙ more)))
-            (c.loop-element.invariant class)
-    | in-Maybe w ↦
-        let at = rest_maybe c.args.pattern.now c.loop-element.element-index c.element-item.result w.in-Maybe.intro w.in-Maybe.body w.in-Maybe.span c.loop-element-test.true (sym c.element-item.is ∙ w.in-Maybe.is) in
-        let body = pattern_of w.in-Maybe.body in
-        let gives = cont_of body class || only (token_class w.in-Maybe.intro) class in
-        let of_body : has w.cont_of-in-Maybe.result class ≡ cont_of body class = w.cont_of-in-Maybe.ensures class ∙ ap (λ b. cont_of (pattern_of b) class) w.as_slice-in-Maybe.ensures in
-        let more : has w.with-more.result class ≡ gives = w.with-more.ensures class ∙ ap (λ b. b || only w.of.result class) of_body ∙ ap (λ k. cont_of body class || only k class) w.of.ensures in
-        skipped (has c.match-element.set class) (has c.loop-element.set class) gives empty (cont_of later class) (can_be_empty here) (cont_of here class) all
-            (ap (λ s. has s class) w.set-is ∙ w.union-set-in-Maybe.ensures class ∙ ap (λ b. has c.loop-element.set class || b) more)
-            (ap can_be_empty at)
-            (ap (λ p. cont_of p class) at)
-            (c.loop-element.invariant class)
+      | in-Literal w ↦
+          let at = rest_literal c.args.pattern.now c.loop-element.element-index c.element-item.result w.in-Literal.token c.loop-element-test.true (sym c.element-item.is ∙ w.in-Literal.is) in
+          begun (has c.match-element.set class) (has c.loop-element.set class) empty (cont_of later class) (can_be_empty here) (cont_of here class) all
+          (ap can_be_empty at)
+          (ap (λ p. cont_of p class) at ∙ sym (nothing_more empty (has c.match-element.set class) (cont_of later class) (ap (λ s. has s class) w.set-is ∙ w.empty-set-in-Literal.ensures class)))
+          (c.loop-element.invariant class)
+      | in-Bind w ↦
+          let at = rest_bind c.args.pattern.now c.loop-element.element-index c.element-item.result w.in-Bind.kind w.in-Bind.name w.in-Bind.span c.loop-element-test.true (sym c.element-item.is ∙ w.in-Bind.is) in
+          begun (has c.match-element.set class) (has c.loop-element.set class) empty (cont_of later class) (can_be_empty here) (cont_of here class) all
+          (ap can_be_empty at)
+          (ap (λ p. cont_of p class) at ∙ sym (ap (λ b. (empty && b) || cont_of later class) (ap (λ s. has s class) w.set-is ∙ w.cont-set.ensures class)))
+          (c.loop-element.invariant class)
+      | in-Repeat+then-least-eq0 w ↦
+          let at = rest_repeat c.args.pattern.now c.loop-element.element-index c.element-item.result w.in-Repeat.least w.in-Repeat.sep w.in-Repeat.body w.in-Repeat.span c.loop-element-test.true (sym c.element-item.is ∙ w.in-Repeat.is) in
+          let body = pattern_of w.in-Repeat.body in
+          let gives = cont_of body class || between w.in-Repeat.sep body class in
+          let of_body : has w.cont_of.result class ≡ cont_of body class = w.cont_of.ensures class ∙ ap (λ b. cont_of (pattern_of b) class) w.as_slice.ensures in
+          let of_between : has w.between.result class ≡ between w.in-Repeat.sep body class = w.between.ensures class ∙ ap (λ b. between w.in-Repeat.sep (pattern_of b) class) w.as_slice-in-Repeat.ensures in
+          let more : has w.union-more.result class ≡ gives = w.union-more.ensures class ∙ ap (λ b. b || has w.between.result class) of_body ∙ ap (λ b. cont_of body class || b) of_between in
+          skipped (has c.match-element.set class) (has c.loop-element.set class) gives empty (cont_of later class) (can_be_empty here) (cont_of here class) all
+          (ap (λ s. has s class) w.set-is ∙ w.union-set.ensures class ∙ ap (λ b. has c.loop-element.set class || b) more)
+          (ap can_be_empty at ∙ ap (λ n. nat_eq n 0 && empty) w.if-least-eq0.true)
+          (ap (λ p. cont_of p class) at)
+          (c.loop-element.invariant class)
+      | in-Repeat+else-least-eq0 w ↦
+          let at = rest_repeat c.args.pattern.now c.loop-element.element-index c.element-item.result w.in-Repeat.least w.in-Repeat.sep w.in-Repeat.body w.in-Repeat.span c.loop-element-test.true (sym c.element-item.is ∙ w.in-Repeat.is) in
+          let body = pattern_of w.in-Repeat.body in
+          let gives = cont_of body class || between w.in-Repeat.sep body class in
+          let of_body : has w.cont_of.result class ≡ cont_of body class = w.cont_of.ensures class ∙ ap (λ b. cont_of (pattern_of b) class) w.as_slice.ensures in
+          let of_between : has w.between.result class ≡ between w.in-Repeat.sep body class = w.between.ensures class ∙ ap (λ b. between w.in-Repeat.sep (pattern_of b) class) w.as_slice-in-Repeat.ensures in
+          let more : has w.union-more.result class ≡ gives = w.union-more.ensures class ∙ ap (λ b. b || has w.between.result class) of_body ∙ ap (λ b. cont_of body class || b) of_between in
+          begun (has c.match-element.set class) (has c.loop-element.set class) empty (cont_of later class) (can_be_empty here) (cont_of here class) all
+          (ap can_be_empty at ∙ ap (λ b. b && empty) (not_zero w.in-Repeat.least w.if-least-eq0.false))
+          (ap (λ p. cont_of p class) at ∙ sym (ap (λ b. (empty && b) || cont_of later class) (ap (λ s. has s class) w.set-is ∙ more)))
+          (c.loop-element.invariant class)
+      | in-Maybe w ↦
+          let at = rest_maybe c.args.pattern.now c.loop-element.element-index c.element-item.result w.in-Maybe.intro w.in-Maybe.body w.in-Maybe.span c.loop-element-test.true (sym c.element-item.is ∙ w.in-Maybe.is) in
+          let body = pattern_of w.in-Maybe.body in
+          let gives = cont_of body class || only (token_class w.in-Maybe.intro) class in
+          let of_body : has w.cont_of-in-Maybe.result class ≡ cont_of body class = w.cont_of-in-Maybe.ensures class ∙ ap (λ b. cont_of (pattern_of b) class) w.as_slice-in-Maybe.ensures in
+          let more : has w.with-more.result class ≡ gives = w.with-more.ensures class ∙ ap (λ b. b || only w.of.result class) of_body ∙ ap (λ k. cont_of body class || only k class) w.of.ensures in
+          skipped (has c.match-element.set class) (has c.loop-element.set class) gives empty (cont_of later class) (can_be_empty here) (cont_of here class) all
+          (ap (λ s. has s class) w.set-is ∙ w.union-set-in-Maybe.ensures class ∙ ap (λ b. has c.loop-element.set class || b) more)
+          (ap can_be_empty at)
+          (ap (λ p. cont_of p class) at)
+          (c.loop-element.invariant class)
     ]

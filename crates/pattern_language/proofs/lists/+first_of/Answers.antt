@@ -28,19 +28,19 @@ skip now before more rest here all e h inv = ap (λ b. b || rest) e ∙ sym (or_
 pub loop-element-preserved : goal.loop-element-preserved
 unfolding first_of
 loop-element-preserved t c = λ class. elim c.match-element.branch [
-      in-Repeat+else-least-ne0 w ↦
-        let later = pattern_of (drop (c.loop-element.element-index + 1) c.args.pattern.now) in
-        let body = pattern_of w.in-Repeat.body in
-        let at = rest_repeat c.args.pattern.now c.loop-element.element-index c.element-item.result w.in-Repeat.least w.in-Repeat.sep w.in-Repeat.body w.in-Repeat.span c.loop-element-test.true (sym c.element-item.is ∙ w.in-Repeat.is) in
-        skip (has c.match-element.set class) (has c.loop-element.set class) (first_of body class) (first_of later class) _ _
-            (ap (λ s. has s class) w.set-is ∙ w.union-set.ensures class ∙ ap (λ b. has c.loop-element.set class || b) (w.first_of.ensures class ∙ ap (λ b. first_of (pattern_of b) class) w.as_slice.ensures))
-            (ap (λ p. first_of p class) at ∙ ap (λ n. first_of body class || (nat_eq n 0 && first_of later class)) w.if-least-ne0.false)
-            (c.loop-element.invariant class)
-    | in-Maybe w ↦
-        let later = pattern_of (drop (c.loop-element.element-index + 1) c.args.pattern.now) in
-        let at = rest_maybe c.args.pattern.now c.loop-element.element-index c.element-item.result w.in-Maybe.intro w.in-Maybe.body w.in-Maybe.span c.loop-element-test.true (sym c.element-item.is ∙ w.in-Maybe.is) in
-        skip (has c.match-element.set class) (has c.loop-element.set class) (only (token_class w.in-Maybe.intro) class) (first_of later class) _ _
-            (ap (λ s. has s class) w.set-is ∙ w.with-set.ensures class ∙ ap (λ k. has c.loop-element.set class || only k class) w.of-in-Maybe.ensures)
-            (ap (λ p. first_of p class) at)
-            (c.loop-element.invariant class)
-    ]
+  | in-Repeat+else-least-ne0 w ↦
+      let later = pattern_of (drop (c.loop-element.element-index + 1) c.args.pattern.now) in
+      let body = pattern_of w.in-Repeat.body in
+      let at = rest_repeat c.args.pattern.now c.loop-element.element-index c.element-item.result w.in-Repeat.least w.in-Repeat.sep w.in-Repeat.body w.in-Repeat.span c.loop-element-test.true (sym c.element-item.is ∙ w.in-Repeat.is) in
+      skip (has c.match-element.set class) (has c.loop-element.set class) (first_of body class) (first_of later class) _ _
+      (ap (λ s. has s class) w.set-is ∙ w.union-set.ensures class ∙ ap (λ b. has c.loop-element.set class || b) (w.first_of.ensures class ∙ ap (λ b. first_of (pattern_of b) class) w.as_slice.ensures))
+      (ap (λ p. first_of p class) at ∙ ap (λ n. first_of body class || (nat_eq n 0 && first_of later class)) w.if-least-ne0.false)
+      (c.loop-element.invariant class)
+  | in-Maybe w ↦
+      let later = pattern_of (drop (c.loop-element.element-index + 1) c.args.pattern.now) in
+      let at = rest_maybe c.args.pattern.now c.loop-element.element-index c.element-item.result w.in-Maybe.intro w.in-Maybe.body w.in-Maybe.span c.loop-element-test.true (sym c.element-item.is ∙ w.in-Maybe.is) in
+      skip (has c.match-element.set class) (has c.loop-element.set class) (only (token_class w.in-Maybe.intro) class) (first_of later class) _ _
+      (ap (λ s. has s class) w.set-is ∙ w.with-set.ensures class ∙ ap (λ k. has c.loop-element.set class || only k class) w.of-in-Maybe.ensures)
+      (ap (λ p. first_of p class) at)
+      (c.loop-element.invariant class)
+]

@@ -8,4 +8,4 @@ use Rattle.pattern_language.proofs.class_set.ClassSet.with.Goals as goal
 pub returns : goal.returns
 returns c = λ class. rw c.class_number.ensures
     (bit_set_has c.args.self.bits (class_number c.args.added) (class_number class) c.requires
-        ∙ or_comm (nat_eq (class_number c.args.added) (class_number class)) (nat_eq (bit_at c.args.self.bits (class_number class)) 1))
+    ∙ or_comm (nat_eq (class_number c.args.added) (class_number class)) (nat_eq (bit_at c.args.self.bits (class_number class)) 1))
