@@ -1,15 +1,14 @@
 -- The binders before a place, list by list.
-use Rattle.std.proofs.Common.{◌≡◌, refl, ap, sym, ◌∙◌, List, [], ◌∷◌, ◌++◌, Bor}
+use Rattle.std.proofs.Common.{◌≡◌, ap, sym, ◌∙◌, List, [], ◌++◌, Bor}
 use Rattle.c_tokens.specs.declared.token.Word.{Word}
 use Rattle.c_tokens.specs.declared.element.Element.{Element}
-use Rattle.pattern_language.specs.declared.earlier.Earlier.{Earlier, fold-Earlier, fold-roll-Earlier}
+use Rattle.pattern_language.specs.declared.earlier.Earlier.{Earlier, fold-roll-Earlier}
 use Rattle.pattern_language.specs.declared.earlier.Earlier.TheOpen.{Earlier-F}
 use Rattle.pattern_language.specs.declared.earlier.Earlier.TheVariants as v
 use Rattle.pattern_language.specs.declared.earlier.Earlier.TheVariants.{rolls-Nothing, rolls-Elements}
-use Rattle.pattern_language.specs.Patterns.{pattern_of, names, is_among}
+use Rattle.pattern_language.specs.Patterns.{pattern_of, names}
 use Rattle.pattern_language.specs.Earlier.{names_before, names_at}
 use Rattle.pattern_language.proofs.Elements.{is_among-append}
-use Rattle.pattern_language.proofs.SetLemmas.{or_comm}
 
 pub before_nothing : names_before v.Nothing ≡ []
 unfolding names_before

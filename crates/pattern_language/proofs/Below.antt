@@ -1,5 +1,5 @@
 -- The classes of tokens have numbers below 128.
-use Rattle.std.proofs.Common.{◌≡◌, ℕ, ◌+◌, ◌<◌, lit<, arith}
+use Rattle.std.proofs.Common.{◌<◌, lit<, arith}
 use Rattle.c_tokens.specs.declared.token.Key.{Key}
 use Rattle.c_tokens.specs.declared.token.Key.TheVariants as k
 use Rattle.c_tokens.specs.declared.token.Punct.{Punct}

@@ -1,5 +1,5 @@
 -- Sets of classes as bits.
-use Rattle.std.proofs.Common.{◌≡◌, ◌≢◌, ◌⊎◌, ℕ, zero, suc, ◌+◌, ◌*◌, ◌/◌, ◌%◌, ◌^◌, ◌<◌, ◌≤◌, refl, Bool, true, false, ◌||◌, nat_eq, nat_lt, bit_and, bit_or, inl, inr, arith, ap, sym, ◌∙◌, subst, IsTrue, lit<, max, min}
+use Rattle.std.proofs.Common.{◌≡◌, ◌≢◌, ℕ, zero, suc, ◌*◌, ◌%◌, ◌^◌, ◌<◌, ◌≤◌, refl, Bool, true, false, ◌||◌, nat_eq, bit_and, bit_or, inl, inr, arith, sym, ◌∙◌, subst, max, min}
 use Rattle.std.specs.Int.{w128}
 use Rattle.std.proofs.lemmas.Nat.{and_le_l}
 use Rattle.std.specs.Int.{bit_at, trailing_zeros}

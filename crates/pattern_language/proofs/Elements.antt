@@ -1,17 +1,15 @@
 -- A pattern, element by element.
-use Rattle.std.proofs.Common.{◌≡◌, suc, refl, ap, sym, ◌∙◌, ℕ, ◌+◌, ◌<◌, ◌≤◌, subst, List, [], ◌∷◌, ◌++◌, map, length, drop, take, get_or, arith, Option, Some, None, Bool, true, false, ◌&&◌, ◌||◌, nat_eq, drop-cons, add-one, length-drop}
-use Rattle.std.proofs.lemmas.List.{take_more}
+use Rattle.std.proofs.Common.{◌≡◌, suc, refl, ap, sym, ◌∙◌, ℕ, ◌+◌, ◌<◌, ◌≤◌, List, [], ◌∷◌, ◌++◌, map, length, drop, get_or, arith, Option, false, ◌||◌, nat_eq, drop-cons, add-one, length-drop}
 use Rattle.std.proofs.lemmas.Bool.Decides.{eqb_tells}
 use Rattle.c_tokens.specs.declared.token.Token.{Token}
 use Rattle.c_tokens.specs.declared.token.Word.{Word}
 use Rattle.c_tokens.specs.declared.kind.Kind.{Kind}
 use Rattle.c_tokens.specs.declared.span.Span.{Span}
-use Rattle.c_tokens.specs.declared.class.Class.{Class}
 use Rattle.c_tokens.specs.declared.element.Element.{Element, fold-Element, fold-roll-Element, roll-Element, out-Element, roll-out-Element}
 use Rattle.c_tokens.specs.declared.element.Element.TheOpen.{Element-F}
 use Rattle.c_tokens.specs.declared.element.Element.TheVariants as v
 use Rattle.c_tokens.specs.declared.element.Element.TheVariants.{rolls-Literal, rolls-Bind, rolls-Repeat, rolls-Maybe}
-use Rattle.pattern_language.specs.Patterns.{Pattern, Done, Literal, Bind, Repeat, Maybe, before, element, after_all, pattern_of, first_of, can_be_empty, cont_of, names, is_among}
+use Rattle.pattern_language.specs.Patterns.{Pattern, Done, Literal, Bind, Repeat, Maybe, before, element, after_all, pattern_of, is_among}
 use Rattle.pattern_language.specs.Rules.{is_done}
 use Rattle.pattern_language.proofs.SetLemmas.{or_assoc}
 

@@ -1,9 +1,8 @@
 -- Where the bodies of repetitions and options stand.
-use Rattle.std.proofs.Common.{◌≡◌, refl, ap, sym, ◌∙◌, ℕ, ◌+◌, Bool, List, Option}
+use Rattle.std.proofs.Common.{◌≡◌}
 use Rattle.std.proofs.Math.Path.{fun_ext}
 use Rattle.c_tokens.specs.declared.class.Class.{Class}
 use Rattle.pattern_language.specs.Classes.{Classes}
-use Rattle.pattern_language.specs.Rules.{Place}
 
 -- Two sets that hold the same classes are one.
 pub same_classes : (a b : Classes) → ((c : Class) → a c ≡ b c) → a ≡ b

@@ -1,5 +1,5 @@
 -- Patterns as lists of elements: what they begin with, what goes on with them, and what may follow each element.
-use Rattle.std.specs.Prelude.{ℕ, zero, ◌+◌, Bool, true, false, ◌&&◌, ◌||◌, nat_eq, nat_le, List, [], ◌∷◌, ◌++◌, Option, Some, None}
+use Rattle.std.specs.Prelude.{ℕ, Bool, true, false, ◌&&◌, ◌||◌, nat_eq, nat_le, List, [], ◌∷◌, ◌++◌, Option, Some, None}
 use Rattle.c_tokens.specs.declared.token.Token.{Token}
 use Rattle.c_tokens.specs.declared.token.Shape.{Shape}
 use Rattle.c_tokens.specs.declared.token.Shape.TheVariants as s
@@ -9,7 +9,7 @@ use Rattle.c_tokens.specs.declared.class.Class.{Class}
 use Rattle.c_tokens.specs.declared.element.Element.{Element, fold-Element}
 use Rattle.c_tokens.specs.declared.element.Element.TheOpen.{Element-F}
 use Rattle.c_tokens.specs.Classes.{class_of}
-use Rattle.pattern_language.specs.Classes.{Classes, only, nothing}
+use Rattle.pattern_language.specs.Classes.{Classes, only}
 use Rattle.pattern_language.specs.Kinds.{first, cont}
 
 -- an element, and the elements after it in its list

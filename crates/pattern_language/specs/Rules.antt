@@ -8,7 +8,7 @@ use Rattle.c_tokens.specs.Kinds.{is_same_kind}
 use Rattle.c_tokens.specs.declared.kind.Base.{Base}
 use Rattle.c_tokens.specs.declared.kind.Base.TheVariants as b
 use Rattle.c_tokens.specs.declared.kind.MetaType.{MetaType}
-use Rattle.pattern_language.specs.Classes.{Classes, Meets, only, nothing}
+use Rattle.pattern_language.specs.Classes.{Classes, Meets, nothing}
 use Rattle.pattern_language.specs.Kinds.{cont, continuations, is_some_class}
 use Rattle.pattern_language.specs.Patterns.{Pattern, Done, Literal, Bind, Repeat, Maybe, token_class, can_be_empty, first_of, between, names, is_among, holds_binder}
 

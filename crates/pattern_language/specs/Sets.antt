@@ -1,5 +1,5 @@
 -- What a set of classes holds.
-use Rattle.std.specs.Prelude.{Bool, nat_eq}
+use Rattle.std.specs.Prelude.{nat_eq}
 use Rattle.std.specs.Int.{bit_at}
 use Rattle.pattern_language.specs.declared.class_set.ClassSet.{ClassSet}
 use Rattle.pattern_language.specs.Classes.{Classes, class_number}

@@ -1,12 +1,12 @@
-use Rattle.std.proofs.Common.{rules, ◌≡◌, ◌<◌, ◌+◌, ◌-◌, ◌^◌, length, min, IfOk, IfErr, ℕ, arith, sym, ◌∙◌, ap, subst, List, drop, take}
+use Rattle.std.proofs.Common.{rules, ◌+◌, ◌-◌, length, arith, sym, ◌∙◌, ap, drop, take}
 use Rattle.std.proofs.lemmas.List.{take_rest}
 use Rattle.pattern_language.specs.Patterns.{pattern_of}
 use Rattle.pattern_language.specs.Rules.{Place, sites}
 use Rattle.pattern_language.specs.Contexts.{place_of}
-use Rattle.pattern_language.specs.Rules.{Passes, Fails}
+use Rattle.pattern_language.specs.Rules.{Fails}
 use Rattle.pattern_language.proofs.Before.{before_elements}
 use Rattle.pattern_language.proofs.Passing.{list_starts, list_ends, place_at, at_element, inner, left}
-use Rattle.pattern_language.proofs.Turns.{Here, breaks_here, keeps_here, after_literal, after_binder, after_inner, in_inner, sites_of_repetition, sites_of_option, few_repetition, few_option}
+use Rattle.pattern_language.proofs.Turns.{breaks_here, keeps_here, after_literal, after_binder, after_inner, in_inner, sites_of_repetition, sites_of_option, few_repetition, few_option}
 use Rattle.pattern_language.proofs.fit.+check_list.Goals.{in-Literal, in-Bind, in-Repeat+in_ok-number-in-Repeat, in-Maybe+in_ok-number-in-Maybe}
 use Rattle.pattern_language.proofs.fit.+check_list.Goals as goal
 

@@ -1,4 +1,3 @@
-use Rattle.std.proofs.Common.{◌≡◌, ℕ}
 use Rattle.pattern_language.specs.Patterns.{pattern_of}
 use Rattle.pattern_language.specs.Rules.{sites}
 use Rattle.pattern_language.specs.Contexts.{place_of}

@@ -1,4 +1,4 @@
-use Rattle.std.proofs.Common.{rules, ◌≡◌, ap, sym, ◌∙◌, List}
+use Rattle.std.proofs.Common.{rules}
 use Rattle.pattern_language.specs.Patterns.{pattern_of}
 use Rattle.pattern_language.specs.Rules.{sites, start, Fails}
 use Rattle.pattern_language.proofs.Before.{before_nothing}

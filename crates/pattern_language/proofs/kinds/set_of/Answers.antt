@@ -1,5 +1,4 @@
-use Rattle.std.proofs.Common.{arith, ◌≡◌, ◌+◌, ap, sym, ◌∙◌, ◌||◌, take}
-use Rattle.pattern_language.specs.Classes.{one_of, only}
+use Rattle.std.proofs.Common.{arith}
 use Rattle.pattern_language.proofs.SetLemmas.{one_of_more}
 use Rattle.pattern_language.proofs.kinds.set_of.Goals as goal
 

@@ -1,9 +1,7 @@
-use Rattle.std.proofs.Common.{◌≡◌, ◌≢◌, ◌+◌, ℕ, Bool, true, false, ◌||◌, ◌&&◌, nat_eq, ap, sym, ◌∙◌, refl, drop, length, arith, List}
+use Rattle.std.proofs.Common.{◌≡◌, ◌≢◌, ◌+◌, ℕ, Bool, true, false, ◌||◌, ◌&&◌, nat_eq, ap, sym, ◌∙◌, refl, drop, arith}
 use Rattle.std.proofs.lemmas.Bool.Decides.{eqb_tells}
-use Rattle.c_tokens.specs.declared.class.Class.{Class}
 use Rattle.pattern_language.specs.Sets.{has}
 use Rattle.pattern_language.specs.Classes.{only}
-use Rattle.pattern_language.specs.Kinds.{cont}
 use Rattle.pattern_language.specs.Patterns.{pattern_of, can_be_empty, cont_of, between, token_class}
 use Rattle.pattern_language.proofs.SetLemmas.{or_assoc}
 use Rattle.pattern_language.proofs.Elements.{rest_literal, rest_bind, rest_repeat, rest_maybe}

@@ -1,12 +1,9 @@
-use Rattle.std.proofs.Common.{◌≡◌, ◌+◌, ℕ, Bool, true, false, ◌||◌, ◌&&◌, nat_eq, ap, sym, ◌∙◌, refl, drop, length, arith, List}
-use Rattle.c_tokens.specs.declared.class.Class.{Class}
-use Rattle.c_tokens.specs.declared.class.Class.TheVariants as k
+use Rattle.std.proofs.Common.{◌≡◌, ◌+◌, Bool, ◌||◌, ◌&&◌, nat_eq, ap, sym, ◌∙◌, drop}
 use Rattle.pattern_language.specs.Sets.{has}
 use Rattle.pattern_language.specs.Classes.{only}
-use Rattle.pattern_language.specs.Kinds.{first}
 use Rattle.pattern_language.specs.Patterns.{pattern_of, first_of, token_class}
 use Rattle.pattern_language.proofs.Elements.{rest_literal, rest_bind, rest_repeat, rest_maybe}
-use Rattle.pattern_language.proofs.SetLemmas.{or_assoc, or_false}
+use Rattle.pattern_language.proofs.SetLemmas.{or_assoc}
 use Rattle.pattern_language.proofs.lists.+first_of.Goals.{in-Repeat+else-least-ne0, in-Maybe}
 use Rattle.pattern_language.proofs.lists.+first_of.Goals as goal
 

@@ -1,7 +1,5 @@
-use Rattle.std.proofs.Common.{◌≡◌, sym, ◌∙◌, inl, inr, ◌⊎◌, IsTrue, true, false, Bool}
-use Rattle.c_tokens.specs.declared.class.Class.{Class}
+use Rattle.std.proofs.Common.{◌≡◌, sym, inl, inr, IsTrue, false, Bool}
 use Rattle.pattern_language.specs.Sets.{has}
-use Rattle.pattern_language.specs.Classes.{Meets}
 use Rattle.pattern_language.specs.Patterns.{pattern_of, between, first_of}
 use Rattle.pattern_language.specs.Rules.{next}
 use Rattle.pattern_language.specs.Contexts.{place_of}

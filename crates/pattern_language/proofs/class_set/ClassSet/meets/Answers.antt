@@ -1,7 +1,6 @@
-use Rattle.std.proofs.Common.{◌≡◌, ◌≢◌, ◌<◌, ◌^◌, arith, sym, ◌∙◌, ℕ, Bool, true, false, not, nat_eq, subst, bit_and, IsTrue, refl, inl, inr, ap}
+use Rattle.std.proofs.Common.{◌≡◌, ◌≢◌, ◌<◌, ◌^◌, arith, sym, ℕ, true, false, not, nat_eq, subst, bit_and, IsTrue, refl, inl, inr}
 use Rattle.std.specs.Int.{bit_at}
 use Rattle.std.proofs.lemmas.Bool.Decides.{eqb_tells}
-use Rattle.c_tokens.specs.declared.class.Class.{Class}
 use Rattle.pattern_language.specs.Classes.{class_number, Meets}
 use Rattle.pattern_language.proofs.Bits.{common_bit, no_common_bit}
 use Rattle.pattern_language.proofs.Numbers.{class_of_number}
