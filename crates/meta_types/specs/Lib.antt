@@ -1,0 +1,4 @@
+pub mod Fit
+pub mod Signatures
+pub mod Items
+pub mod Shown
