@@ -1,12 +1,11 @@
 -- The types of calls, by the number of their arguments.
-use Rattle.std.proofs.Common.{◌≡◌, refl, ap, sym, ◌∙◌, ℕ, ◌≤◌, ◌<◌, Bool, true, false, cond, ◌&&◌, List, [], ◌∷◌, Option, Some, None, option_map, find, nat_le, subst, arith, if◌then◌else◌}
+use Rattle.std.proofs.Common.{◌≡◌, refl, ap, sym, ◌∙◌, ◌≤◌, ◌<◌, Bool, true, false, cond, ◌&&◌, List, [], ◌∷◌, Option, Some, None, option_map, nat_le, arith, if◌then◌else◌}
 use Rattle.std.specs.Option.{option_and_then, option_and}
-use Rattle.std.specs.List.{list_all}
 use Rattle.std.proofs.lemmas.Bool.Decides.{nat_tests}
 use Rattle.c_tokens.specs.declared.kind.MetaType.{MetaType}
 use Rattle.meta_types.specs.Fit.{does_fit}
 use Rattle.meta_types.specs.Items.{only_item, both_items}
-use Rattle.meta_types.specs.Signatures.{Shown, just, variable, list, Signature, takes_one, takes_two, call_type, types_given, result_with, variable_of, instance_of, element_of, list_of, int}
+use Rattle.meta_types.specs.Signatures.{Shown, just, variable, list, takes_one, takes_two, call_type, types_given, result_with, variable_of, element_of, list_of, int}
 use Rattle.meta_types.proofs.Fitting.{does_fit-self}
 
 -- a list of one item, and of two

@@ -1,5 +1,5 @@
 -- Looking through a table row by row.
-use Rattle.std.proofs.Common.{◌≡◌, refl, ap, sym, true, false, ◌∙◌, ℕ, ◌+◌, ◌<◌, ◌≤◌, cond, List, [], ◌∷◌, length, drop, get_or, Some, None, bytes_eq, nat_eq, arith, add-one, drop-cons}
+use Rattle.std.proofs.Common.{◌≡◌, refl, ap, true, false, ◌∙◌, ℕ, ◌+◌, ◌<◌, ◌≤◌, cond, List, [], ◌∷◌, length, drop, get_or, Some, None, bytes_eq, arith, add-one, drop-cons}
 use Rattle.std.specs.Borrow.{Bor}
 use Rattle.std.proofs.lemmas.Grind.{common_steps}
 use Rattle.c_tokens.specs.Spelling.{find_text}

@@ -1,5 +1,5 @@
 -- The types of the primitives.
-use Rattle.std.specs.Prelude.{Bool, ◌&&◌, ◌+◌, ◌-◌, List, [], ◌∷◌, Option, Some, None, option_map, option_and_then, find, nat_le, codes, if◌then◌else◌}
+use Rattle.std.specs.Prelude.{◌&&◌, ◌+◌, ◌-◌, List, [], ◌∷◌, Option, Some, None, option_map, option_and_then, find, nat_le, codes, if◌then◌else◌}
 use Rattle.std.specs.List.{list_all}
 use Rattle.c_tokens.specs.Spelling.{Table}
 use Rattle.c_tokens.specs.declared.kind.Kind.{Kind}

@@ -1,4 +1,4 @@
-use Rattle.std.proofs.Common.{sym, ap, ◌∙◌, true, false}
+use Rattle.std.proofs.Common.{sym, ◌∙◌, true, false}
 use Rattle.meta_types.proofs.Calls.{no_one, one_fits}
 use Rattle.meta_types.proofs.primitives.of_one.Goals as goal
 

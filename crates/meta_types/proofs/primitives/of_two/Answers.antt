@@ -1,4 +1,4 @@
-use Rattle.std.proofs.Common.{sym, ap, ◌∙◌, true, false, refl}
+use Rattle.std.proofs.Common.{sym, ◌∙◌, true, false, refl}
 use Rattle.meta_types.proofs.Calls.{no_two, two_fit}
 use Rattle.meta_types.specs.Fit.{does_fit}
 use Rattle.meta_types.proofs.primitives.of_two.Goals as goal
