@@ -4,3 +4,4 @@ pub mod Tokens
 pub mod Kinds
 pub mod Places
 pub mod Runs
+pub mod Classes

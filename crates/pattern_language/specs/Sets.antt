@@ -1,0 +1,9 @@
+-- What a set of classes holds.
+use Rattle.std.specs.Prelude.{nat_eq}
+use Rattle.std.specs.Int.{bit_at}
+use Rattle.pattern_language.specs.declared.class_set.ClassSet.{ClassSet}
+use Rattle.pattern_language.specs.Classes.{Classes, class_number}
+
+-- bit n of the set is for the class of number n
+abbrev pub has : ClassSet → Classes
+has set c = nat_eq (bit_at set.bits (class_number c)) 1
