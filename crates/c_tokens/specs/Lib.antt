@@ -4,4 +4,3 @@ pub mod Tokens
 pub mod Kinds
 pub mod Places
 pub mod Runs
-pub mod Classes

@@ -1,8 +1,6 @@
 //! Shared plain data: words, spans and the tokens of extended C.
 #![tactic(auto)]
 
-mod class;
-mod element;
 mod kind;
 mod list;
 mod memory;
@@ -12,8 +10,6 @@ mod tests;
 mod token;
 mod words;
 
-pub use class::Class;
-pub use element::Element;
 pub use kind::{Base, FunctionNo, Kind, MacroNo, MetaType, below};
 pub use list::{Bytes, List};
 pub use memory::Memory;

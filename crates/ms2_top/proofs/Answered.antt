@@ -1,11 +1,8 @@
 -- What a run says of the file, from what reading and writing say.
-use Rattle.std.proofs.Common.{◌≡◌, refl, ap, sym, subst, ◌∙◌, ◌⊎◌, inl, inr, ℕ, ◌≤◌, length, List, Option, Some, None, IfSome, arith}
-use Rattle.std.specs.Option.{option_copied}
-use denote.Ref.{Bor}
-use Rattle.io_edge.specs.Files.{Files, file_at}
+use Rattle.std.proofs.Common.{◌≡◌, refl, sym, subst, ℕ, List, Option, Some, None, IfSome}
 use Rattle.ms2_top.specs.declared.status.Status.{Status}
 use Rattle.ms2_top.specs.declared.status.Status.TheVariants.{Done, Refused, Usage, Read, Write, Memory, Limit}
-use Rattle.ms2_top.specs.Runs.{told, IsRun, IsAnswer, IsSettled}
+use Rattle.ms2_top.specs.Runs.{IsRun, IsAnswer}
 
 by_status : (most : ℕ) (bytes : List ℕ) (old new : Option (List ℕ)) (status : Status) → IsAnswer bytes old new status → IsRun most (Some bytes) old new status
 by_status most bytes old new Done h = h

@@ -1,3 +1,4 @@
+pub mod ClassOf
 pub mod Classes
 pub mod Sets
 pub mod Kinds

@@ -1,10 +1,9 @@
 //! Classes of tokens, in which all words are alike.
 
 ghost use Rattle.std.specs.Prelude.{◌≡◌};
-ghost use Rattle.c_tokens.specs.Classes.{class_of};
+ghost use Rattle.pattern_language.specs.ClassOf.{class_of};
 
-use crate::kind::Kind;
-use crate::token::{Key, Mark, Punct, Shape};
+use c_tokens::{Key, Kind, Mark, Punct, Shape};
 
 /// What a token is, whatever the text of a word, a constant or a literal.
 #[derive(Clone, Copy, Debug, PartialEq, Eq)]

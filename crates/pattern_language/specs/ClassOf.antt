@@ -1,8 +1,8 @@
 -- Which tokens are alike.
 use Rattle.c_tokens.specs.declared.token.Shape.{Shape}
 use Rattle.c_tokens.specs.declared.token.Shape.TheVariants as s
-use Rattle.c_tokens.specs.declared.class.Class.{Class}
-use Rattle.c_tokens.specs.declared.class.Class.TheVariants as c
+use Rattle.pattern_language.specs.declared.class.Class.{Class}
+use Rattle.pattern_language.specs.declared.class.Class.TheVariants as c
 
 -- the class of a token by itself: all words are alike, and so are all constants of one sort
 abbrev pub class_of : Shape → Class
