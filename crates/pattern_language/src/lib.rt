@@ -15,4 +15,7 @@ pub use class_set::ClassSet;
 pub use element::Element;
 pub use fit::{Fit, PatternFault, check};
 pub use kinds::{cont, first};
-pub use lists::{cont_of, first_of};
+pub use lists::{cont_of, first_of, is_plain};
+
+#[cfg(test)]
+mod tests;

@@ -10,7 +10,7 @@ use crate::class::Class;
 use crate::class_set::ClassSet;
 use crate::element::Element;
 use crate::kinds::{cont, first};
-use c_tokens::{Token, Word};
+use c_tokens::{Shape, Token, Word};
 
 /// Whether no token can spell the elements.
 #[tactic(auto, using(crate::proofs::Elements::rests), unfolding(crate::specs::Patterns::can_be_empty))]
@@ -134,4 +134,56 @@ pub(crate) fn holds_binder(pattern: &[Element]) -> bool
         }
     }
     false
+}
+
+fn is_spelled(token: &Token) -> bool
+    ensures { result ≡ patterns.is_spelled token.now.shape }
+{
+    match token.shape {
+        Shape::Key(_) | Shape::Punct(_) | Shape::Word(_) => true,
+        _ => false,
+    }
+}
+
+fn is_separator(sep: &Option<Token>) -> bool
+    ensures { result ≡ patterns.is_separator sep.now }
+{
+    match sep {
+        Some(sep) => is_spelled(sep),
+        None => true,
+    }
+}
+
+/// Whether each literal, separator and intro, at any depth, is a keyword, a punctuator or a word,
+/// and each repetition is written for none or one at least.
+#[tactic(auto, using(crate::proofs::Elements::rests), unfolding(crate::specs::Patterns::is_plain))]
+pub fn is_plain(pattern: &[Element]) -> bool
+    ensures { result ≡ patterns.is_plain (pattern_of pattern.now) }
+{
+    for element in pattern {
+        match element {
+            Element::Literal { token } => {
+                if !is_spelled(token) {
+                    return false;
+                }
+            }
+            Element::Bind { .. } => {}
+            Element::Repeat {
+                least,
+                sep,
+                body,
+                ..
+            } => {
+                if *least > 1 || !is_separator(sep) || !is_plain(body.as_slice()) {
+                    return false;
+                }
+            }
+            Element::Maybe { intro, body, .. } => {
+                if !is_spelled(intro) || !is_plain(body.as_slice()) {
+                    return false;
+                }
+            }
+        }
+    }
+    true
 }

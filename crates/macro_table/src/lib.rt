@@ -1,0 +1,6 @@
+//! The macros of a source.
+#![tactic(auto)]
+
+mod table;
+
+pub use table::MacroTable;
