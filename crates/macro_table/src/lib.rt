@@ -4,3 +4,6 @@
 mod table;
 
 pub use table::MacroTable;
+
+#[cfg(test)]
+mod tests;
