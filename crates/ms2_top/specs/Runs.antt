@@ -1,5 +1,5 @@
 -- What the status of a run says.
-use Rattle.std.specs.Prelude.{◌≡◌, ◌<◌, ℕ, List, length, take, Option, Some, None, IsSome, IsSomeAnd}
+use Rattle.std.specs.Prelude.{◌≡◌, ◌<◌, ◌≤◌, ℕ, List, length, take, Option, Some, None, IsSome, IsSomeAnd}
 use Rattle.io_edge.specs.Files.{Files, file_at}
 use Rattle.io_edge.specs.Put.{Appends}
 use Rattle.ms2_top.specs.declared.status.Status.{Status}
@@ -35,9 +35,9 @@ IsAnswer bytes old new _ = ⊥
 
 -- What each status says of the file, where the shelf tells it, and of what `out` holds.
 abbrev pub IsRun : ℕ → Option (List ℕ) → Option (List ℕ) → Option (List ℕ) → Status → Type 0
-IsRun most file old new Done = IsSomeAnd file (λ bytes. Writes bytes Whole old new)
-IsRun most file old new Write = IsSomeAnd file (λ bytes. Writes bytes Front old new)
-IsRun most file old new Refused = IsSomeAnd file HasNoReading
+IsRun most file old new Done = IsSomeAnd file (λ bytes. (length bytes ≤ most) × Writes bytes Whole old new)
+IsRun most file old new Write = IsSomeAnd file (λ bytes. (length bytes ≤ most) × Writes bytes Front old new)
+IsRun most file old new Refused = IsSomeAnd file (λ bytes. (length bytes ≤ most) × HasNoReading bytes)
 IsRun most file old new Limit = IsSomeAnd file (λ bytes. most < length bytes)
 IsRun most file old new Usage = ⊥
 IsRun most file old new Read = Unit {0}
