@@ -10,8 +10,10 @@ use Rattle.c_tokens.specs.declared.token.Mark.TheVariants as mark
 use Rattle.c_grammar.specs.declared.refusal.Refusal.TheVariants.{Syntax, TooDeep}
 use Rattle.c_grammar.specs.Words.{AreDistinct}
 use Rattle.c_grammar.specs.Grammar.{read, an_item, declaration, definition, pattern, bound, expression, primary}
-use Rattle.c_tokens.specs.Bytes.{is_digit, is_letter, is_word_byte}
-use Rattle.c_tokens.specs.Spelling.{spelling_of, word_spelling, find_text, keywords, is_word}
+use Rattle.c_tokens.specs.Bytes.{is_digit, is_letter, is_word_byte, is_quote}
+use Rattle.c_tokens.specs.Spelling.{spelling_of, word_spelling, find_text, keywords, is_word, plain_spelling}
+use Rattle.c_tokens.specs.Literals.{starts_literal, starts_with_quote, starts_wide}
+use Rattle.c_tokens.specs.Skipped.{starts_comment, starts_with_byte, starts_directive, starts_percent_colon}
 use Rattle.c_grammar.specs.Laws.{IsKnown, AreKnown, IsFirstDead, IsTooDeep}
 use Rattle.c_grammar.proofs.Local.{from}
 use Rattle.c_grammar.proofs.Answered.{first_dead, only_deep}
@@ -31,7 +33,7 @@ distinct : AreDistinct names
 distinct i j a b e = omega arith
 
 m_known : IsKnown names (s.Word m)
-unfolding spelling_of word_spelling find_text keywords is_word is_letter is_digit is_word_byte
+unfolding spelling_of plain_spelling starts_literal starts_with_quote starts_wide is_quote starts_comment starts_with_byte starts_directive starts_percent_colon word_spelling find_text keywords is_word is_letter is_digit is_word_byte
 m_known = refl
 
 -- `int m = ;` lacks a value

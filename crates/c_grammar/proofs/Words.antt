@@ -13,8 +13,12 @@ use Rattle.c_tokens.specs.declared.token.Shape.TheVariants as s
 use Rattle.c_grammar.specs.declared.context.Context.TheVariants.{InItem}
 use Rattle.c_grammar.specs.Words.{is_identifier, is_exp, AreDistinct}
 use Rattle.c_grammar.specs.Laws.{IsKnown}
-use Rattle.c_tokens.specs.Bytes.{is_digit, is_letter, is_word_byte}
-use Rattle.c_tokens.specs.Spelling.{Spelling, spelling_of, word_spelling, find_text, keywords, is_word, is_marked_word, is_word_after_at, is_number, goes_on_number, starts_with_digit, is_decimal}
+use Rattle.c_tokens.specs.declared.lexical.Dialect.TheVariants.{C90}
+use Rattle.c_tokens.specs.Bytes.{is_digit, is_letter, is_word_byte, is_octal, is_quote}
+use Rattle.c_tokens.specs.Constants.{starts_with_digit, is_integer, is_hexadecimal_rest, is_integer_suffix}
+use Rattle.c_tokens.specs.Literals.{starts_literal, starts_with_quote, starts_wide}
+use Rattle.c_tokens.specs.Skipped.{starts_comment, starts_with_byte, starts_directive, starts_percent_colon}
+use Rattle.c_tokens.specs.Spelling.{Spelling, spelling_of, word_spelling, find_text, keywords, is_word, is_marked_word, is_word_after_at, is_number, goes_on_number, number_spelling, plain_spelling}
 use Rattle.c_trees.specs.Named.{is_word_spelling, is_integer_spelling}
 use Rattle.c_trees.proofs.Parts.{both, first_of_both, second_of_both}
 use Rattle.std.proofs.Common.{nat_lt, ◌&&◌}
@@ -97,30 +101,30 @@ add names text D = elim (find names text) [
 
 -- ---- what completes an item
 
-exp_text : is_word_spelling (spelling_of (codes "exp")) ≡ true
-unfolding spelling_of word_spelling find_text keywords is_word is_letter is_digit is_word_byte
+exp_text : is_word_spelling (spelling_of C90 (codes "exp")) ≡ true
+unfolding spelling_of plain_spelling starts_literal starts_with_quote starts_wide is_quote starts_comment starts_with_byte starts_directive starts_percent_colon word_spelling find_text keywords is_word is_letter is_digit is_word_byte
 exp_text = refl
 
-a_text : is_word_spelling (spelling_of (codes "a")) ≡ true
-unfolding spelling_of word_spelling find_text keywords is_word is_letter is_digit is_word_byte
+a_text : is_word_spelling (spelling_of C90 (codes "a")) ≡ true
+unfolding spelling_of plain_spelling starts_literal starts_with_quote starts_wide is_quote starts_comment starts_with_byte starts_directive starts_percent_colon word_spelling find_text keywords is_word is_letter is_digit is_word_byte
 a_text = refl
 
-b_text : is_word_spelling (spelling_of (codes "b")) ≡ true
-unfolding spelling_of word_spelling find_text keywords is_word is_letter is_digit is_word_byte
+b_text : is_word_spelling (spelling_of C90 (codes "b")) ≡ true
+unfolding spelling_of plain_spelling starts_literal starts_with_quote starts_wide is_quote starts_comment starts_with_byte starts_directive starts_percent_colon word_spelling find_text keywords is_word is_letter is_digit is_word_byte
 b_text = refl
 
-zero_text : is_integer_spelling (spelling_of (codes "0")) ≡ true
-unfolding spelling_of is_word is_letter is_digit is_marked_word is_word_after_at is_number goes_on_number starts_with_digit is_decimal
+zero_text : is_integer_spelling (spelling_of C90 (codes "0")) ≡ true
+unfolding spelling_of plain_spelling starts_literal starts_with_quote starts_wide is_quote starts_comment starts_with_byte starts_directive starts_percent_colon is_word is_letter is_digit is_marked_word is_word_after_at is_number goes_on_number starts_with_digit number_spelling is_integer is_hexadecimal_rest is_integer_suffix is_octal
 zero_text = refl
 
 abbrev word : ℕ → Word
 word n = record { 0 = n }
 
-is_a_word : (names : List (List ℕ)) (text : List ℕ) (h : Has names text) → is_word_spelling (spelling_of text) ≡ true → IsKnown names (s.Word (word h.number))
-is_a_word names text h e = both _ _ (lt-ltb h.number (length names) h.within) (ap (λ t. is_word_spelling (spelling_of t)) h.found ∙ e)
+is_a_word : (names : List (List ℕ)) (text : List ℕ) (h : Has names text) → is_word_spelling (spelling_of C90 text) ≡ true → IsKnown names (s.Word (word h.number))
+is_a_word names text h e = both _ _ (lt-ltb h.number (length names) h.within) (ap (λ t. is_word_spelling (spelling_of C90 t)) h.found ∙ e)
 
-is_a_constant : (names : List (List ℕ)) (text : List ℕ) (h : Has names text) → is_integer_spelling (spelling_of text) ≡ true → IsKnown names (s.Int (word h.number))
-is_a_constant names text h e = both _ _ (lt-ltb h.number (length names) h.within) (ap (λ t. is_integer_spelling (spelling_of t)) h.found ∙ e)
+is_a_constant : (names : List (List ℕ)) (text : List ℕ) (h : Has names text) → is_integer_spelling (spelling_of C90 text) ≡ true → IsKnown names (s.Int (word h.number))
+is_a_constant names text h e = both _ _ (lt-ltb h.number (length names) h.within) (ap (λ t. is_integer_spelling (spelling_of C90 t)) h.found ∙ e)
 
 -- Texts with the name of the kind of expressions, a constant, and a name that an item may declare.
 pub record Enough (names : List (List ℕ)) (m : Option Word) : Type 0 where
@@ -188,15 +192,15 @@ enough names m D =
 -- ---- what is known stays known
 
 -- a number with a text that passes a test is within the table
-pub within_table : (names : List (List ℕ)) (n : Word) (test : Option Spelling → Bool) → (nat_lt n.0 (length names) && test (spelling_of (at names n.0))) ≡ true → n.0 < length names
+pub within_table : (names : List (List ℕ)) (n : Word) (test : Option Spelling → Bool) → (nat_lt n.0 (length names) && test (spelling_of C90 (at names n.0))) ≡ true → n.0 < length names
 within_table names n test h = ltb-true n.0 (length names) (first_of_both _ _ h)
 
-longer : (names more : List (List ℕ)) (n : Word) (test : Option Spelling → Bool) → (nat_lt n.0 (length names) && test (spelling_of (at names n.0))) ≡ true
-    → (nat_lt n.0 (length (names ++ more)) && test (spelling_of (at (names ++ more) n.0))) ≡ true
+longer : (names more : List (List ℕ)) (n : Word) (test : Option Spelling → Bool) → (nat_lt n.0 (length names) && test (spelling_of C90 (at names n.0))) ≡ true
+    → (nat_lt n.0 (length (names ++ more)) && test (spelling_of C90 (at (names ++ more) n.0))) ≡ true
 longer names more n test h =
     let less : n.0 < length names = within_table names n test h in
     let more_less : n.0 < length (names ++ more) = omega (arith, length-append names more) in
-    both _ _ (lt-ltb n.0 (length (names ++ more)) more_less) (ap (λ t. test (spelling_of t)) (at_left names more n.0 less) ∙ second_of_both _ _ h)
+    both _ _ (lt-ltb n.0 (length (names ++ more)) more_less) (ap (λ t. test (spelling_of C90 t)) (at_left names more n.0 less) ∙ second_of_both _ _ h)
 
 pub known_more : (names more : List (List ℕ)) (x : Shape) → IsKnown names x → IsKnown (names ++ more) x
 known_more names more (s.Word n) h = longer names more n is_word_spelling h

@@ -1,5 +1,5 @@
 -- What is known at a reached place, and how it goes on.
-use Rattle.std.proofs.Common.{◌≡◌, refl, sym, ap, subst, ◌∙◌, ℕ, zero, suc, ◌+◌, ◌-◌, ◌<◌, ◌≤◌, Bool, true, false, List, [], ◌∷◌, ◌++◌, length, take, drop, cond, Some, None, is_some, unwrap_or, position, bytes_eq, Result, Ok, Err, nat_lt, arith}
+use Rattle.std.proofs.Common.{◌≡◌, refl, sym, ap, subst, ◌∙◌, ℕ, ◌+◌, ◌-◌, ◌<◌, ◌≤◌, Bool, true, false, List, [], ◌∷◌, ◌++◌, length, take, drop, get_or, nat_eq, ◌&&◌, ◌||◌, cond, Some, None, is_some, unwrap_or, position, bytes_eq, Result, Ok, Err, nat_lt, arith}
 use Rattle.std.specs.List.{position_or_len}
 use Rattle.std.proofs.lemmas.Grind.{common_steps}
 use Rattle.std.proofs.lemmas.Bool.Decides.{nat_tests}
@@ -8,14 +8,20 @@ use Rattle.std.proofs.lemmas.List.Folds.{prefix_len-append}
 use Rattle.c_tokens.specs.declared.token.Token.{Token}
 use Rattle.c_tokens.specs.declared.token.Shape.{Shape}
 use Rattle.c_tokens.specs.declared.token.Shape.TheVariants as shape
-use Rattle.c_tokens.specs.Spelling.{Spelling, Sort, space, token, refused, keyword, punctuator, mark, word, integer}
-use Rattle.c_tokens.specs.Tokens.{longest, Piece, meaning, pieces, pieces_from, number_in, shape_of, token_at, before, adds, tokens_in, tokens_of, with_text, gains, gained_in, gained, Keeps}
+use Rattle.c_tokens.specs.declared.lexical.Dialect.{Dialect}
+use Rattle.c_tokens.specs.declared.lexical.LexCause.{LexCause}
+use Rattle.c_tokens.specs.declared.lexical.LexCause.TheVariants as cause
+use Rattle.c_tokens.specs.Bytes.{is_white_space}
+use Rattle.c_tokens.specs.Skipped.{stands_first}
+use Rattle.c_tokens.specs.Spelling.{Spelling, Sort, space, marker, token, refused, keyword, punctuator, mark, word, integer, floating, character, string}
+use Rattle.c_tokens.specs.Tokens.{longest, Piece, meaning, pieces, pieces_from, number_in, shape_of, token_at, Bad, bad, before, adds, tokens_in, tokens_of, with_text, gains, gained_in, gained, Keeps}
 use Rattle.c_lexer.specs.declared.piece.Piece.{Piece as Described}
 use Rattle.c_lexer.specs.Meanings.{spelling_by}
 use Rattle.c_lexer.specs.Pieces.{Describes}
 use Rattle.c_lexer.proofs.Heads.{part}
 use Rattle.c_tokens.proofs.Texts.{position-with_text, length-with_text}
-use Rattle.c_tokens.proofs.Steps.{IsRead, piece, meaning-nothing, tokens-step, tokens-stop, gained-step}
+use Rattle.c_tokens.proofs.Steps.{IsRead, piece, tokens-step, gained-step}
+use Rattle.c_tokens.proofs.Ends.{first-nothing, first-after, refused-near}
 use Rattle.c_tokens.proofs.Longest.{longest-le}
 
 -- tables that grow
@@ -39,21 +45,29 @@ keeps_with names text = with_by names text (is_some (position (bytes_eq text) na
 
 pub keeps_gains : (names : List (List ℕ)) (text : List ℕ) (s : Spelling) → Keeps names (gains names text s)
 keeps_gains names text space = keeps_all names
-keeps_gains names text refused = keeps_all names
+keeps_gains names text marker = keeps_all names
+keeps_gains names text (refused offset c) = keeps_all names
 keeps_gains names text (token (keyword k)) = keeps_all names
 keeps_gains names text (token (punctuator p)) = keeps_all names
 keeps_gains names text (token (mark m)) = keeps_all names
 keeps_gains names text (token word) = keeps_with names text
 keeps_gains names text (token integer) = keeps_with names text
+keeps_gains names text (token floating) = keeps_with names text
+keeps_gains names text (token character) = keeps_with names text
+keeps_gains names text (token string) = keeps_with names text
 
 pub length_gains : (names : List (List ℕ)) (text : List ℕ) (s : Spelling) → length (gains names text s) ≤ length names + 1
 length_gains names text space = omega arith
-length_gains names text refused = omega arith
+length_gains names text marker = omega arith
+length_gains names text (refused offset c) = omega arith
 length_gains names text (token (keyword k)) = omega arith
 length_gains names text (token (punctuator p)) = omega arith
 length_gains names text (token (mark m)) = omega arith
 length_gains names text (token word) = length-with_text names text
 length_gains names text (token integer) = length-with_text names text
+length_gains names text (token floating) = length-with_text names text
+length_gains names text (token character) = length-with_text names text
+length_gains names text (token string) = length-with_text names text
 
 -- a text that a table has keeps its place
 
@@ -95,161 +109,196 @@ shape_stays names final text (punctuator p) h = refl
 shape_stays names final text (mark m) h = refl
 shape_stays names final text word h = ap (λ n. shape.Word (record { 0 = n })) (number_stays names final text h)
 shape_stays names final text integer h = ap (λ n. shape.Int (record { 0 = n })) (number_stays names final text h)
+shape_stays names final text floating h = ap (λ n. shape.Float (record { 0 = n })) (number_stays names final text h)
+shape_stays names final text character h = ap (λ n. shape.Char (record { 0 = n })) (number_stays names final text h)
+shape_stays names final text string h = ap (λ n. shape.Str (record { 0 = n })) (number_stays names final text h)
 
 -- what was read so far
 
-abbrev pub prepend : List Token → Result (List Token) ℕ → Result (List Token) ℕ
+abbrev pub prepend : List Token → Result (List Token) Bad → Result (List Token) Bad
 prepend ts (Ok others) = Ok (ts ++ others)
-prepend ts (Err at) = Err at
+prepend ts (Err e) = Err e
 
-abbrev pub tokens_at : List (List ℕ) → List ℕ → ℕ → Result (List Token) ℕ
-tokens_at names bytes at = tokens_in names (length bytes) (pieces_from at 0 (drop at bytes))
+abbrev pub tokens_at : Dialect → List (List ℕ) → List ℕ → ℕ → Result (List Token) Bad
+tokens_at d names bytes at = tokens_in d names bytes (pieces_from d at 0 (drop at bytes))
 
-pub record Read (bytes : List ℕ) (old : List (List ℕ)) (at : ℕ) (tokens : List Token) (names : List (List ℕ)) : Type 0 where
+pub record Read (d : Dialect) (bytes : List ℕ) (old : List (List ℕ)) (at : ℕ) (first : Bool) (tokens : List Token) (names : List (List ℕ)) : Type 0 where
   pub within : at ≤ length bytes
   pub few : length names ≤ length old + at
   pub kept : Keeps old names
-  pub tokens_so_far : (final : List (List ℕ)) → Keeps names final → tokens_of final bytes ≡ prepend tokens (tokens_at final bytes at)
-  pub gained_so_far : gained old bytes ≡ gained_in names (pieces_from at 0 (drop at bytes))
+  pub first_is : at < length bytes → first ≡ stands_first bytes at
+  pub tokens_so_far : (final : List (List ℕ)) → Keeps names final → tokens_of d final bytes ≡ prepend tokens (tokens_at d final bytes at)
+  pub gained_so_far : gained d old bytes ≡ gained_in d names (pieces_from d at 0 (drop at bytes))
 
-prepend_none : (r : Result (List Token) ℕ) → r ≡ prepend [] r
+prepend_none : (r : Result (List Token) Bad) → r ≡ prepend [] r
 prepend_none (Ok ts) = refl
-prepend_none (Err at) = refl
+prepend_none (Err e) = refl
 
-pub read_nothing : (bytes : List ℕ) (old : List (List ℕ)) → Read bytes old 0 [] old
+pub read_nothing : (d : Dialect) (bytes : List ℕ) (old : List (List ℕ)) → Read d bytes old 0 true [] old
 unfolding tokens_of gained pieces
-read_nothing bytes old = record {
+read_nothing d bytes old = record {
   within = omega arith;
   few = omega arith;
   kept = keeps_all old;
-  tokens_so_far = λ final k. prepend_none (tokens_at final bytes 0);
+  first_is = λ some. sym (first-nothing bytes);
+  tokens_so_far = λ final k. prepend_none (tokens_at d final bytes 0);
   gained_so_far = refl;
 }
 
 push_append : (ts : List Token) (t : Token) (others : List Token) → (ts ++ t ∷ []) ++ others ≡ ts ++ t ∷ others
 push_append ts t others = grind (arith, common_steps)
 
-prepend_before : (ts : List Token) (t : Token) (r : Result (List Token) ℕ) → prepend ts (before t r) ≡ prepend (ts ++ t ∷ []) r
+prepend_before : (ts : List Token) (t : Token) (r : Result (List Token) Bad) → prepend ts (before t r) ≡ prepend (ts ++ t ∷ []) r
 prepend_before ts t (Ok others) = ap (λ l. Ok l) (sym (push_append ts t others))
-prepend_before ts t (Err at) = refl
+prepend_before ts t (Err e) = refl
 
 drop_further : (bytes : List ℕ) (at n : ℕ) → drop n (drop at bytes) ≡ drop (at + n) bytes
 drop_further bytes at n = grind (arith, common_steps)
 
 -- a spelling that stands at a place, as the program describes it
-pub record Stands (bytes : List ℕ) (at n : ℕ) (s : Spelling) : Type 0 where
+pub record Stands (d : Dialect) (bytes : List ℕ) (at n : ℕ) (s : Spelling) : Type 0 where
   pub here : at < length bytes
-  pub longest_is : longest (drop at bytes) ≡ n
-  pub means : meaning (take n (drop at bytes)) ≡ s
+  pub some : 0 < n
+  pub longest_is : longest d (drop at bytes) ≡ n
+  pub means : meaning d (take n (drop at bytes)) ≡ s
 
-pub some_read : (bytes : List ℕ) (at n : ℕ) (s : Spelling) → Stands bytes at n s → IsRead s → 0 < n
-some_read bytes at zero s h read = absurd (subst IsRead (sym h.means ∙ meaning-nothing) read)
-some_read bytes at (suc n) s h read = omega arith
+pub stands_within : (d : Dialect) (bytes : List ℕ) (at n : ℕ) (s : Spelling) → Stands d bytes at n s → at + n ≤ length bytes
+stands_within d bytes at n s h = let here = h.here in omega (arith, h.longest_is, longest-le d (drop at bytes), length-drop at bytes)
 
-pub stands_within : (bytes : List ℕ) (at n : ℕ) (s : Spelling) → Stands bytes at n s → at + n ≤ length bytes
-stands_within bytes at n s h = let here = h.here in omega (arith, h.longest_is, longest-le (drop at bytes), length-drop at bytes)
+inside_rest : (d : Dialect) (bytes : List ℕ) (at n : ℕ) (s : Spelling) → Stands d bytes at n s → n ≤ length (drop at bytes)
+inside_rest d bytes at n s h = omega (arith, h.longest_is, longest-le d (drop at bytes))
 
-inside_rest : (bytes : List ℕ) (at n : ℕ) (s : Spelling) → Stands bytes at n s → n ≤ length (drop at bytes)
-inside_rest bytes at n s h = omega (arith, h.longest_is, longest-le (drop at bytes))
-
-step_tokens : (bytes : List ℕ) (at n : ℕ) (s : Spelling) → Stands bytes at n s → 0 < n → (final : List (List ℕ)) → tokens_at final bytes at ≡ adds final (piece at (take n (drop at bytes))) s (tokens_at final bytes (at + n))
-step_tokens bytes at n s h some final =
+step_tokens : (d : Dialect) (bytes : List ℕ) (at n : ℕ) (s : Spelling) → Stands d bytes at n s → (final : List (List ℕ)) → tokens_at d final bytes at ≡ adds final bytes (piece at (take n (drop at bytes))) s (tokens_at d final bytes (at + n))
+step_tokens d bytes at n s h final =
     let rest = drop at bytes in
-    tokens-step final (length bytes) at rest n h.longest_is some (inside_rest bytes at n s h)
-    ∙ ap (λ m. adds final (piece at (take n rest)) m (tokens_in final (length bytes) (pieces_from (at + n) 0 (drop n rest)))) h.means
-    ∙ ap (λ r. adds final (piece at (take n rest)) s (tokens_in final (length bytes) (pieces_from (at + n) 0 r))) (drop_further bytes at n)
+    tokens-step d final bytes at rest n h.longest_is h.some (inside_rest d bytes at n s h)
+    ∙ ap (λ m. adds final bytes (piece at (take n rest)) m (tokens_in d final bytes (pieces_from d (at + n) 0 (drop n rest)))) h.means
+    ∙ ap (λ r. adds final bytes (piece at (take n rest)) s (tokens_in d final bytes (pieces_from d (at + n) 0 r))) (drop_further bytes at n)
 
-step_gained : (bytes : List ℕ) (at n : ℕ) (s : Spelling) → Stands bytes at n s → IsRead s → (names : List (List ℕ)) → gained_in names (pieces_from at 0 (drop at bytes)) ≡ gained_in (gains names (take n (drop at bytes)) s) (pieces_from (at + n) 0 (drop (at + n) bytes))
-step_gained bytes at n s h read names =
+step_gained : (d : Dialect) (bytes : List ℕ) (at n : ℕ) (s : Spelling) → Stands d bytes at n s → IsRead s → (names : List (List ℕ))
+    → gained_in d names (pieces_from d at 0 (drop at bytes)) ≡ gained_in d (gains names (take n (drop at bytes)) s) (pieces_from d (at + n) 0 (drop (at + n) bytes))
+step_gained d bytes at n s h read names =
     let rest = drop at bytes in
-    gained-step names at rest n h.longest_is (some_read bytes at n s h read) (inside_rest bytes at n s h) (subst IsRead (sym h.means) read)
-    ∙ ap (λ m. gained_in (gains names (take n rest) m) (pieces_from (at + n) 0 (drop n rest))) h.means
-    ∙ ap (λ r. gained_in (gains names (take n rest) s) (pieces_from (at + n) 0 r)) (drop_further bytes at n)
+    gained-step d names at rest n h.longest_is h.some (inside_rest d bytes at n s h) (subst IsRead (sym h.means) read)
+    ∙ ap (λ m. gained_in d (gains names (take n rest) m) (pieces_from d (at + n) 0 (drop n rest))) h.means
+    ∙ ap (λ r. gained_in d (gains names (take n rest) s) (pieces_from d (at + n) 0 r)) (drop_further bytes at n)
 
-pub read_space : (bytes : List ℕ) (old : List (List ℕ)) (at n : ℕ) (ts : List Token) (names : List (List ℕ)) → Read bytes old at ts names → Stands bytes at n space → Read bytes old (at + n) ts names
-read_space bytes old at n ts names r h = record {
-  within = stands_within bytes at n space h;
+-- what the program keeps about the line
+abbrev pub Next : List ℕ → ℕ → Bool → Bool → Type 0
+Next bytes end first next = next ≡ (nat_eq (get_or bytes (end - 1) 0) 10 || (is_white_space (get_or bytes (end - 1) 0) && first))
+
+next_first : (d : Dialect) (bytes : List ℕ) (at n : ℕ) (s : Spelling) (first next : Bool) → Stands d bytes at n s → IsRead s → first ≡ stands_first bytes at → Next bytes (at + n) first next → at + n < length bytes → next ≡ stands_first bytes (at + n)
+next_first d bytes at n s first next h read f e more =
+    e ∙ ap (λ b. nat_eq (get_or bytes (at + n - 1) 0) 10 || (is_white_space (get_or bytes (at + n - 1) 0) && b)) f
+    ∙ sym (first-after d bytes at n s h.some h.longest_is h.means read more)
+
+read_on : (d : Dialect) (bytes : List ℕ) (old : List (List ℕ)) (at n : ℕ) (s : Spelling) (first next : Bool) (ts : List Token) (names : List (List ℕ)) → Read d bytes old at first ts names → Stands d bytes at n s → IsRead s → gains names (take n (drop at bytes)) s ≡ names → Next bytes (at + n) first next
+    → ((final : List (List ℕ)) → adds final bytes (piece at (take n (drop at bytes))) s (tokens_at d final bytes (at + n)) ≡ tokens_at d final bytes (at + n)) → Read d bytes old (at + n) next ts names
+read_on d bytes old at n s first next ts names r h read same e nothing = record {
+  within = stands_within d bytes at n s h;
   few = let few = r.few in omega arith;
   kept = r.kept;
-  tokens_so_far = λ final k. r.tokens_so_far final k ∙ ap (prepend ts) (step_tokens bytes at n space h (some_read bytes at n space h tt) final);
-  gained_so_far = r.gained_so_far ∙ step_gained bytes at n space h tt names;
+  first_is = λ more. next_first d bytes at n s first next h read (r.first_is h.here) e more;
+  tokens_so_far = λ final k. r.tokens_so_far final k ∙ ap (prepend ts) (step_tokens d bytes at n s h final ∙ nothing final);
+  gained_so_far = r.gained_so_far ∙ step_gained d bytes at n s h read names ∙ ap (λ x. gained_in d x (pieces_from d (at + n) 0 (drop (at + n) bytes))) same;
 }
+
+pub read_space : (d : Dialect) (bytes : List ℕ) (old : List (List ℕ)) (at n : ℕ) (first next : Bool) (ts : List Token) (names : List (List ℕ)) → Read d bytes old at first ts names → Stands d bytes at n space → Next bytes (at + n) first next → Read d bytes old (at + n) next ts names
+read_space d bytes old at n first next ts names r h e = read_on d bytes old at n space first next ts names r h tt refl e (λ final. refl)
+
+pub read_marker : (d : Dialect) (bytes : List ℕ) (old : List (List ℕ)) (at n : ℕ) (first next : Bool) (ts : List Token) (names : List (List ℕ)) → Read d bytes old at first ts names → Stands d bytes at n marker → first ≡ true → Next bytes (at + n) first next → Read d bytes old (at + n) next ts names
+read_marker d bytes old at n first next ts names r h is e =
+    read_on d bytes old at n marker first next ts names r h tt refl e
+    (λ final. ap (λ b. cond b (tokens_at d final bytes (at + n)) (bad at cause.Directive)) (sym (r.first_is h.here) ∙ is))
 
 same_token : (a b : Shape) (start end end' : ℕ) → a ≡ b → end ≡ end' → token_at a start end ≡ token_at b start end'
 same_token a b start end end' e f = ap (λ s. token_at s start end) e ∙ ap (λ n. token_at b start n) f
 
-pub read_token : (bytes : List ℕ) (old : List (List ℕ)) (at n : ℕ) (ts : List Token) (names new : List (List ℕ)) (sort : Sort) (shape : Shape) → Read bytes old at ts names → Stands bytes at n (token sort)
-    → new ≡ gains names (take n (drop at bytes)) (token sort) → shape ≡ shape_of new (take n (drop at bytes)) sort → Read bytes old (at + n) (ts ++ token_at shape at (at + n) ∷ []) new
-read_token bytes old at n ts names new sort shape r h gained_is shape_is =
+pub read_token : (d : Dialect) (bytes : List ℕ) (old : List (List ℕ)) (at n : ℕ) (first next : Bool) (ts : List Token) (names new : List (List ℕ)) (sort : Sort) (shape : Shape) → Read d bytes old at first ts names → Stands d bytes at n (token sort) → Next bytes (at + n) first next
+    → new ≡ gains names (take n (drop at bytes)) (token sort) → shape ≡ shape_of new (take n (drop at bytes)) sort → Read d bytes old (at + n) next (ts ++ token_at shape at (at + n) ∷ []) new
+read_token d bytes old at n first next ts names new sort shape r h e gained_is shape_is =
     let rest = drop at bytes in
     let text = take n rest in
     let s : Spelling = token sort in
-    let some = some_read bytes at n s h tt in
     let grown : Keeps names new = subst (Keeps names) (sym gained_is) (keeps_gains names text s) in
     record {
-      within = stands_within bytes at n s h;
-      few = let few = r.few in omega (arith, ap length gained_is, length_gains names text s);
+      within = stands_within d bytes at n s h;
+      few = let few = r.few in let some = h.some in omega (arith, ap length gained_is, length_gains names text s);
       kept = keeps_on old names new r.kept grown;
+      first_is = λ more. next_first d bytes at n s first next h tt (r.first_is h.here) e more;
       tokens_so_far = λ final k.
           r.tokens_so_far final (keeps_on names new final grown k)
-          ∙ ap (prepend ts) (step_tokens bytes at n s h some final)
-          ∙ prepend_before ts (token_at (shape_of final text sort) at (at + length text)) (tokens_at final bytes (at + n))
-          ∙ ap (λ t. prepend (ts ++ t ∷ []) (tokens_at final bytes (at + n)))
+          ∙ ap (prepend ts) (step_tokens d bytes at n s h final)
+          ∙ prepend_before ts (token_at (shape_of final text sort) at (at + length text)) (tokens_at d final bytes (at + n))
+          ∙ ap (λ t. prepend (ts ++ t ∷ []) (tokens_at d final bytes (at + n)))
           (same_token (shape_of final text sort) shape at (at + length text) (at + n)
           (shape_stays names final text sort (subst (λ x. Keeps x final) gained_is k) ∙ ap (λ x. shape_of x text sort) (sym gained_is) ∙ sym shape_is)
-          (ap (λ k. at + k) (length-take-le n rest (inside_rest bytes at n s h))));
-      gained_so_far = r.gained_so_far ∙ step_gained bytes at n s h tt names ∙ ap (λ x. gained_in x (pieces_from (at + n) 0 (drop (at + n) bytes))) (sym gained_is);
+          (ap (λ k. at + k) (length-take-le n rest (inside_rest d bytes at n s h))));
+      gained_so_far = r.gained_so_far ∙ step_gained d bytes at n s h tt names ∙ ap (λ x. gained_in d x (pieces_from d (at + n) 0 (drop (at + n) bytes))) (sym gained_is);
     }
 
--- whether and where a text is refused does not depend on the table
+-- whether, where and why a text is refused does not depend on the table
 
-refused_before : (t t' : Token) (at : ℕ) (r r' : Result (List Token) ℕ) → before t r ≡ Err at → (r ≡ Err at → r' ≡ Err at) → before t' r' ≡ Err at
-refused_before t t' at (Ok others) r' e h = absurd cc
-refused_before t t' at (Err a) r' e h = ap (before t') (h e)
+refused_before : (t t' : Token) (e : Bad) (r r' : Result (List Token) Bad) → before t r ≡ Err e → (r ≡ Err e → r' ≡ Err e) → before t' r' ≡ Err e
+refused_before t t' e (Ok others) r' h go = absurd cc
+refused_before t t' e (Err a) r' h go = ap (before t') (go h)
 
-refused_here : (names other : List (List ℕ)) (p : Piece) (m : Spelling) (at : ℕ) (r r' : Result (List Token) ℕ) → adds names p m r ≡ Err at → (r ≡ Err at → r' ≡ Err at) → adds other p m r' ≡ Err at
-refused_here names other p space at r r' e h = h e
-refused_here names other p refused at r r' e h = e
-refused_here names other p (token sort) at r r' e h =
-    refused_before (token_at (shape_of names p.text sort) p.start (p.start + length p.text)) (token_at (shape_of other p.text sort) p.start (p.start + length p.text)) at r r' e h
+refused_marker : (first : Bool) (at : ℕ) (e : Bad) (r r' : Result (List Token) Bad) → cond first r (bad at cause.Directive) ≡ Err e → (r ≡ Err e → r' ≡ Err e) → cond first r' (bad at cause.Directive) ≡ Err e
+refused_marker true at e r r' h go = go h
+refused_marker false at e r r' h go = h
 
-refused_alike : (names other : List (List ℕ)) (end at : ℕ) (ps : List Piece) → tokens_in names end ps ≡ Err at → tokens_in other end ps ≡ Err at
+refused_here : (names other : List (List ℕ)) (bytes : List ℕ) (p : Piece) (m : Spelling) (e : Bad) (r r' : Result (List Token) Bad) → adds names bytes p m r ≡ Err e → (r ≡ Err e → r' ≡ Err e) → adds other bytes p m r' ≡ Err e
+refused_here names other bytes p space e r r' h go = go h
+refused_here names other bytes p marker e r r' h go = refused_marker (stands_first bytes p.start) p.start e r r' h go
+refused_here names other bytes p (refused offset c) e r r' h go = h
+refused_here names other bytes p (token sort) e r r' h go =
+    refused_before (token_at (shape_of names p.text sort) p.start (p.start + length p.text)) (token_at (shape_of other p.text sort) p.start (p.start + length p.text)) e r r' h go
+
+refused_alike : (d : Dialect) (names other : List (List ℕ)) (bytes : List ℕ) (e : Bad) (ps : List Piece) → tokens_in d names bytes ps ≡ Err e → tokens_in d other bytes ps ≡ Err e
 unfolding tokens_in
-refused_alike names other end at [] e = absurd cc
-refused_alike names other end at (p ∷ ps) e = refused_here names other p (meaning p.text) at (tokens_in names end ps) (tokens_in other end ps) e (refused_alike names other end at ps)
+refused_alike d names other bytes e [] h = absurd cc
+refused_alike d names other bytes e (p ∷ ps) h = refused_here names other bytes p (meaning d p.text) e (tokens_in d names bytes ps) (tokens_in d other bytes ps) h (refused_alike d names other bytes e ps)
 
-refused_at : (bytes : List ℕ) (at n : ℕ) → Stands bytes at n refused → (names : List (List ℕ)) → tokens_at names bytes at ≡ Err at
-refused_at bytes at zero h names = tokens-stop names (length bytes) at (drop at bytes) h.longest_is (let here = h.here in omega (arith, length-drop at bytes))
-refused_at bytes at (suc n) h names = step_tokens bytes at (suc n) refused h (omega arith) names
-
-pub read_refused : (bytes : List ℕ) (old : List (List ℕ)) (at n : ℕ) (ts : List Token) (names : List (List ℕ)) → Read bytes old at ts names → Stands bytes at n refused → (other : List (List ℕ)) → tokens_of other bytes ≡ Err at
+read_spoiled : (d : Dialect) (bytes : List ℕ) (old : List (List ℕ)) (at : ℕ) (first : Bool) (ts : List Token) (names : List (List ℕ)) (e : Bad) → Read d bytes old at first ts names → tokens_at d names bytes at ≡ Err e → (other : List (List ℕ)) → tokens_of d other bytes ≡ Err e
 unfolding tokens_of
-read_refused bytes old at n ts names r h other =
-    refused_alike names other (length bytes) at (pieces bytes) (r.tokens_so_far names (keeps_all names) ∙ ap (prepend ts) (refused_at bytes at n h names))
+read_spoiled d bytes old at first ts names e r h other = refused_alike d names other bytes e (pieces d bytes) (r.tokens_so_far names (keeps_all names) ∙ ap (prepend ts) h)
+
+pub read_refused : (d : Dialect) (bytes : List ℕ) (old : List (List ℕ)) (at n offset : ℕ) (c : LexCause) (first : Bool) (ts : List Token) (names : List (List ℕ)) → Read d bytes old at first ts names → Stands d bytes at n (refused offset c) → (other : List (List ℕ)) → tokens_of d other bytes ≡ bad (at + offset) c
+read_refused d bytes old at n offset c first ts names r h = read_spoiled d bytes old at first ts names (record { at = at + offset; cause = c }) r (step_tokens d bytes at n (refused offset c) h names)
+
+pub refused_within : (d : Dialect) (bytes : List ℕ) (at n offset : ℕ) (c : LexCause) → Stands d bytes at n (refused offset c) → at + offset ≤ length bytes + 2
+refused_within d bytes at n offset c h =
+    omega (arith, stands_within d bytes at n (refused offset c) h, refused-near d (take n (drop at bytes)) offset c h.means, length-take-le n (drop at bytes) (inside_rest d bytes at n (refused offset c) h))
+
+pub read_late : (d : Dialect) (bytes : List ℕ) (old : List (List ℕ)) (at n : ℕ) (first : Bool) (ts : List Token) (names : List (List ℕ)) → Read d bytes old at first ts names → Stands d bytes at n marker → first ≡ false → (other : List (List ℕ)) → tokens_of d other bytes ≡ bad at cause.Directive
+read_late d bytes old at n first ts names r h is =
+    read_spoiled d bytes old at first ts names (record { at = at; cause = cause.Directive }) r
+    (step_tokens d bytes at n marker h names ∙ ap (λ b. cond b (tokens_at d names bytes (at + n)) (bad at cause.Directive)) (sym (r.first_is h.here) ∙ is))
 
 none_left : (bytes : List ℕ) (at : ℕ) → length bytes ≤ at → drop at bytes ≡ []
 none_left bytes at past = grind (arith, common_steps)
 
-at_end : (names : List (List ℕ)) (bytes : List ℕ) (at : ℕ) → length bytes ≤ at → tokens_at names bytes at ≡ Ok (token_at shape.End (length bytes) (length bytes) ∷ [])
+at_end : (d : Dialect) (names : List (List ℕ)) (bytes : List ℕ) (at : ℕ) → length bytes ≤ at → tokens_at d names bytes at ≡ Ok (token_at shape.End (length bytes) (length bytes) ∷ [])
 unfolding tokens_in pieces_from
-at_end names bytes at past = ap (λ r. tokens_in names (length bytes) (pieces_from at 0 r)) (none_left bytes at past)
+at_end d names bytes at past = ap (λ r. tokens_in d names bytes (pieces_from d at 0 r)) (none_left bytes at past)
 
-pub read_all : (bytes : List ℕ) (old : List (List ℕ)) (at : ℕ) (ts : List Token) (names : List (List ℕ)) → Read bytes old at ts names → length bytes ≤ at → tokens_of names bytes ≡ Ok (ts ++ token_at shape.End at at ∷ [])
-read_all bytes old at ts names r past =
+pub read_all : (d : Dialect) (bytes : List ℕ) (old : List (List ℕ)) (at : ℕ) (first : Bool) (ts : List Token) (names : List (List ℕ)) → Read d bytes old at first ts names → length bytes ≤ at → tokens_of d names bytes ≡ Ok (ts ++ token_at shape.End at at ∷ [])
+read_all d bytes old at first ts names r past =
     let same : length bytes ≡ at = let within = r.within in omega arith in
-    r.tokens_so_far names (keeps_all names) ∙ ap (prepend ts) (at_end names bytes at past) ∙ ap (λ n. Ok (ts ++ token_at shape.End n n ∷ [])) same
+    r.tokens_so_far names (keeps_all names) ∙ ap (prepend ts) (at_end d names bytes at past) ∙ ap (λ n. Ok (ts ++ token_at shape.End n n ∷ [])) same
 
-nothing_gained : (names : List (List ℕ)) (bytes : List ℕ) (at : ℕ) → length bytes ≤ at → gained_in names (pieces_from at 0 (drop at bytes)) ≡ names
+nothing_gained : (d : Dialect) (names : List (List ℕ)) (bytes : List ℕ) (at : ℕ) → length bytes ≤ at → gained_in d names (pieces_from d at 0 (drop at bytes)) ≡ names
 unfolding gained_in pieces_from
-nothing_gained names bytes at past = ap (λ r. gained_in names (pieces_from at 0 r)) (none_left bytes at past)
+nothing_gained d names bytes at past = ap (λ r. gained_in d names (pieces_from d at 0 r)) (none_left bytes at past)
 
-pub gained_all : (bytes : List ℕ) (old : List (List ℕ)) (at : ℕ) (ts : List Token) (names : List (List ℕ)) → Read bytes old at ts names → length bytes ≤ at → names ≡ gained old bytes
-gained_all bytes old at ts names r past = sym (r.gained_so_far ∙ nothing_gained names bytes at past)
+pub gained_all : (d : Dialect) (bytes : List ℕ) (old : List (List ℕ)) (at : ℕ) (first : Bool) (ts : List Token) (names : List (List ℕ)) → Read d bytes old at first ts names → length bytes ≤ at → names ≡ gained d old bytes
+gained_all d bytes old at first ts names r past = sym (r.gained_so_far ∙ nothing_gained d names bytes at past)
 
 -- from what the program knows of a piece
-pub stands_by : (bytes : List ℕ) (at : ℕ) (piece : Described) (s : Spelling) → at < length bytes → Describes (take (length bytes - at) (drop at bytes)) piece → spelling_by piece.meaning ≡ s → Stands bytes at piece.length s
-stands_by bytes at piece s here d says = record {
+pub stands_by : (d : Dialect) (bytes : List ℕ) (at : ℕ) (piece : Described) (s : Spelling) → at < length bytes → Describes d (take (length bytes - at) (drop at bytes)) piece → spelling_by piece.meaning ≡ s → Stands d bytes at piece.length s
+stands_by d bytes at piece s here p says = record {
   here = here;
-  longest_is = ap longest (sym (part bytes at)) ∙ sym d.length;
-  means = ap (λ t. meaning (take piece.length t)) (sym (part bytes at)) ∙ sym d.meaning ∙ says;
+  some = p.some;
+  longest_is = ap (longest d) (sym (part bytes at)) ∙ sym p.length;
+  means = ap (λ t. meaning d (take piece.length t)) (sym (part bytes at)) ∙ sym p.meaning ∙ says;
 }

@@ -1,19 +1,22 @@
 //! All tokens of a source.
 
-ghost use Rattle.std.specs.Prelude.{◌≡◌, ℕ, ◌<◌, ◌≤◌, ◌+◌, ◌-◌, ◌^◌, List, Ok, Err, length, IfOk, OnOk, OnErr};
+ghost use Rattle.std.specs.Prelude.{◌≡◌, ℕ, ◌<◌, ◌≤◌, ◌+◌, ◌-◌, ◌^◌, ◌&&◌, ◌||◌, Bool, List, Ok, Err, length, IfOk, OnOk, OnErr, nat_eq};
+ghost use Rattle.c_tokens.specs.Bytes as kind;
 ghost use Rattle.c_tokens.specs.Spelling.{token};
-ghost use Rattle.c_tokens.specs.Tokens.{tokens_of, gained, gains, shape_of, token_at, Keeps};
+ghost use Rattle.c_tokens.specs.Tokens.{tokens_of, gained, gains, shape_of, token_at, bad, Keeps};
+ghost use Rattle.c_tokens.specs.declared.lexical.LexCause as spec_cause;
 ghost use Rattle.c_lexer.specs.Meanings.{sort_by};
 
+use crate::bytes::is_white_space;
 use crate::piece::{Meaning, Sort, first_piece};
-use c_tokens::{MAX_SOURCE_BYTES, Memory, Shape, Span, Token, Words};
+use c_tokens::{Dialect, LexCause, MAX_SOURCE_BYTES, Memory, Shape, Span, Token, Words};
 use std::alloc::{AllocFailed, Global};
 
 /// Why a source has no tokens.
 #[derive(Clone, Copy, Debug, PartialEq, Eq)]
 pub enum LexStop {
-    /// What begins at this byte is no token.
-    Bad { at: usize },
+    /// The source is spoiled at this byte.
+    Bad { at: usize, cause: LexCause },
     Memory,
 }
 
@@ -40,32 +43,62 @@ impl<T: Drop> From<AllocFailed<T>> for LexStop {
 }
 
 /// The tokens of a source, the last of which is its end.
-pub fn lex(alloc: Global, bytes: &[u8], words: &mut Words) -> Result<Vec<Token>, LexStop>
+pub fn lex(
+    alloc: Global,
+    bytes: &[u8],
+    dialect: Dialect,
+    words: &mut Words,
+) -> Result<Vec<Token>, LexStop>
     requires size { length bytes.now ≤ MAX_SOURCE_BYTES }
     requires few { length words.old ≤ 2 ^ 31 }
-    ensures tokens { IfOk result (λ v. tokens_of words.new bytes.now ≡ Ok v.items) }
-    ensures gained { OnOk result (words.new ≡ gained words.old bytes.now) }
-    ensures bad { (at : ℕ) → result ≡ Err (LexStop.Bad at) → (names : List (List ℕ)) → tokens_of names bytes.now ≡ Err at }
+    ensures tokens { IfOk result (λ v. tokens_of dialect words.new bytes.now ≡ Ok v.items) }
+    ensures gained { OnOk result (words.new ≡ gained dialect words.old bytes.now) }
+    ensures bad { (at : ℕ) (cause : spec_cause.LexCause) → result ≡ Err (LexStop.Bad at cause) → (names : List (List ℕ)) → tokens_of dialect names bytes.now ≡ bad at cause }
     ensures kept { Keeps words.old words.new }
     ensures few { length words.new ≤ length words.old + length bytes.now }
 {
     let mut tokens = Vec::new(alloc);
     let mut at = 0;
+    // whether only white space stands on its line before `at`
+    let mut first = true;
     while at < bytes.len() {
-        let piece = first_piece(&bytes[at..]);
+        let piece = first_piece(&bytes[at..], dialect);
         let end = at + piece.length;
+        let next_first = stays_first(first, bytes[end - 1]);
         match piece.meaning {
             Meaning::Space => {}
+            Meaning::Marker => {
+                if !first {
+                    return Err(LexStop::Bad {
+                        at,
+                        cause: LexCause::Directive,
+                    });
+                }
+            }
             Meaning::Token(sort) => {
                 let shape = shape(sort, &bytes[at..end], words)?;
                 tokens.push(token(shape, at, end))?;
             }
-            Meaning::Refused => return Err(LexStop::Bad { at }),
+            Meaning::Refused { offset, cause } => {
+                return Err(LexStop::Bad {
+                    at: at + offset,
+                    cause,
+                });
+            }
         }
+        first = next_first;
         at = end;
     }
     tokens.push(token(Shape::End, at, at))?;
     Ok(tokens)
+}
+
+/// Whether only white space stands on its line before a place, by the byte before it and whether
+/// only white space stands before that byte.
+fn stays_first(first: bool, byte: u8) -> bool
+    ensures { result ≡ (nat_eq byte 10 || (kind.is_white_space byte && first)) }
+{
+    byte == b'\n' || is_white_space(byte) && first
 }
 
 fn token(shape: Shape, start: usize, end: usize) -> Token
@@ -94,6 +127,9 @@ fn shape(sort: Sort, text: &[u8], words: &mut Words) -> Result<Shape, Memory>
         Sort::Punct(punct) => Ok(Shape::Punct(punct)),
         Sort::Mark(mark) => Ok(Shape::Mark(mark)),
         Sort::Word => Ok(Shape::Word(words.number(text)?)),
-        Sort::Integer => Ok(Shape::Int(words.number(text)?)),
+        Sort::Int => Ok(Shape::Int(words.number(text)?)),
+        Sort::Float => Ok(Shape::Float(words.number(text)?)),
+        Sort::Char => Ok(Shape::Char(words.number(text)?)),
+        Sort::Str => Ok(Shape::Str(words.number(text)?)),
     }
 }

@@ -3,9 +3,14 @@
 
 mod bytes;
 mod lexer;
+mod literals;
+mod numbers;
 mod piece;
+mod runs;
+mod skipped;
 mod tables;
 #[cfg(test)]
 mod tests;
 
+pub use c_tokens::LexCause;
 pub use lexer::{LexStop, lex};

@@ -1,5 +1,6 @@
 pub mod Bools
 pub mod Steps
+pub mod Opens
 pub mod Longest
 pub mod Pieces
 pub mod Written

@@ -26,16 +26,16 @@ all_spelled (t ∷ others) = spelled_declaration t ++ all_spelled others
 
 -- ---- the text has these tokens
 
-layout_lexes : (names : List (List ℕ)) → IsDistinct bytes_eq names → (end : ℕ) (items : List Declaration) → AllPass (is_named_declaration names) items
-    → Lexes names end (layout names items) (all_spelled items ++ s.End ∷ [])
+layout_lexes : (names : List (List ℕ)) → IsDistinct bytes_eq names → (whole : List ℕ) (items : List Declaration) → AllPass (is_named_declaration names) items
+    → Lexes names whole (layout names items) (all_spelled items ++ s.End ∷ [])
 unfolding layout
-layout_lexes names distinct end [] named = nothing_lexes names end
-layout_lexes names distinct end (t ∷ others) named =
+layout_lexes names distinct whole [] named = nothing_lexes names whole
+layout_lexes names distinct whole (t ∷ others) named =
     let here : is_named_declaration names t ≡ true = All-head (λ d. is_named_declaration names d ≡ true) t others named in
     let later : AllPass (is_named_declaration names) others = All-tail (λ d. is_named_declaration names d ≡ true) t others named in
-    subst (Lexes names end (line names (spelled_declaration t) ++ layout names others)) (sym (append_assoc (spelled_declaration t) (all_spelled others) (s.End ∷ [])))
-    (line_lexes names end (spelled_declaration t) (layout names others) (all_spelled others ++ s.End ∷ []) (declaration_written names distinct t here)
-    (layout_lexes names distinct end others later))
+    subst (Lexes names whole (line names (spelled_declaration t) ++ layout names others)) (sym (append_assoc (spelled_declaration t) (all_spelled others) (s.End ∷ [])))
+    (line_lexes names whole (spelled_declaration t) (layout names others) (all_spelled others ++ s.End ∷ []) (declaration_written names distinct t here)
+    (layout_lexes names distinct whole others later))
 
 -- ---- tokens of these shapes stand in their places
 
@@ -79,7 +79,7 @@ module _ (w : List Token) where
 pub layout_is_read_back : (names : List (List ℕ)) (items : List Declaration) → IsReadBack names items (layout names items)
 unfolding tokens_of pieces
 layout_is_read_back names items distinct pure named =
-    let lexed = layout_lexes names distinct (length (layout names items)) items named 0 in
+    let lexed = layout_lexes names distinct (layout names items) items named 0 in
     let stand = subst (λ u. Stand u lexed.tokens 0 (length lexed.tokens)) lexed.shapes (stand_all lexed.tokens) in
     let parts = parted (all_spelled items) (s.End ∷ []) lexed.tokens 0 (length lexed.tokens) stand in
     record {

@@ -12,8 +12,14 @@ use Rattle.c_tokens.specs.declared.token.Punct.{Punct}
 use Rattle.c_tokens.specs.declared.token.Punct.TheVariants as p
 use Rattle.c_tokens.specs.declared.token.Shape.{Shape}
 use Rattle.c_tokens.specs.declared.token.Shape.TheVariants as s
-use Rattle.c_tokens.specs.Bytes.{is_digit, is_letter, is_word_byte, is_white_space}
-use Rattle.c_tokens.specs.Spelling.{Sort, keyword, punctuator, word, integer, Spelling, token, spelling_of, sign_spelling, word_spelling, find_text, keywords, punctuators, is_word, is_marked_word, is_word_after_at, is_number, starts_with_digit, is_space}
+use Rattle.c_tokens.specs.Bytes.{is_digit, is_letter, is_word_byte, is_white_space, is_quote}
+use Rattle.c_tokens.specs.Spelling.{Sort, keyword, punctuator, word, integer, Spelling, token, spelling_of, sign_spelling, word_spelling, find_text, keywords, punctuators, is_word, is_marked_word, is_word_after_at, is_number, is_space, plain_spelling}
+use Rattle.c_tokens.specs.Literals.{starts_literal, starts_with_quote, starts_wide}
+use Rattle.c_tokens.specs.Skipped.{starts_comment, starts_with_byte, starts_directive, starts_percent_colon}
+use Rattle.c_tokens.specs.Constants.{starts_with_digit}
+use Rattle.c_tokens.specs.declared.lexical.Dialect.TheVariants.{C90}
+use Rattle.c_printer.proofs.Opens.{IsPlainSort}
+use Rattle.c_printer.proofs.Longest.{IsToken}
 use Rattle.c_tokens.specs.Tokens.{shape_of, number_in}
 use Rattle.c_trees.specs.Named.{is_word_spelling, is_integer_spelling, names_word, names_integer}
 use Rattle.c_grammar.specs.Words.{text_of}
@@ -23,8 +29,12 @@ use Rattle.c_printer.proofs.Bools.{and_first, and_second}
 -- the text of a shape is a spelling, which stands for the shape
 pub record IsWritten (names : List (List ℕ)) (x : Shape) : Type 0 where
   pub sort : Sort
-  pub spelled : spelling_of (text_of_shape names x) ≡ Some (token sort)
+  pub plain : IsPlainSort sort
+  pub spelled : spelling_of C90 (text_of_shape names x) ≡ Some (token sort)
   pub same : shape_of names (text_of_shape names x) sort ≡ x
+
+pub as_token : (names : List (List ℕ)) (x : Shape) → IsWritten names x → IsToken (text_of_shape names x)
+as_token names x w = record { sort = w.sort; plain = w.plain; spelled = w.spelled }
 
 abbrev pub AllWritten : List (List ℕ) → List Shape → Type 0
 AllWritten names [] = Unit {0}
@@ -34,21 +44,21 @@ pub all_written-append : (names : List (List ℕ)) (u v : List Shape) → AllWri
 all_written-append names [] v a b = b
 all_written-append names (x ∷ u) v a b = (a.0, all_written-append names u v a.1 b)
 
-key_spelled : (key : Key) → spelling_of (text_of_key key) ≡ Some (token (keyword key))
-unfolding spelling_of word_spelling find_text keywords is_word is_letter is_word_byte
+key_spelled : (key : Key) → spelling_of C90 (text_of_key key) ≡ Some (token (keyword key))
+unfolding spelling_of plain_spelling starts_literal starts_with_quote starts_wide is_quote starts_comment starts_with_byte starts_directive starts_percent_colon word_spelling find_text keywords is_word is_letter is_word_byte
 key_spelled k.Auto = refl
 key_spelled _ = refl
 
 pub key_written : (names : List (List ℕ)) (key : Key) → IsWritten names (s.Key key)
-key_written names key = record { sort = keyword key; spelled = key_spelled key; same = refl }
+key_written names key = record { sort = keyword key; plain = tt; spelled = key_spelled key; same = refl }
 
-punct_spelled : (punct : Punct) → spelling_of (text_of_punct punct) ≡ Some (token (punctuator punct))
-unfolding spelling_of sign_spelling find_text punctuators is_word is_marked_word is_word_after_at is_number starts_with_digit is_digit is_letter is_space is_white_space
+punct_spelled : (punct : Punct) → spelling_of C90 (text_of_punct punct) ≡ Some (token (punctuator punct))
+unfolding spelling_of plain_spelling starts_literal starts_with_quote starts_wide is_quote starts_comment starts_with_byte starts_directive starts_percent_colon sign_spelling find_text punctuators is_word is_marked_word is_word_after_at is_number starts_with_digit is_digit is_letter is_space is_white_space
 punct_spelled p.Comma = refl
 punct_spelled _ = refl
 
 pub punct_written : (names : List (List ℕ)) (punct : Punct) → IsWritten names (s.Punct punct)
-punct_written names punct = record { sort = punctuator punct; spelled = punct_spelled punct; same = refl }
+punct_written names punct = record { sort = punctuator punct; plain = tt; spelled = punct_spelled punct; same = refl }
 
 -- ---- words and constants
 
@@ -82,7 +92,8 @@ word_written names n distinct h =
     let within : n.0 < length names = ltb-true n.0 (length names) (and_first _ _ h) in
     record {
       sort = word;
-      spelled = is_word_token (spelling_of (text_of names n)) (and_second _ _ h);
+      plain = tt;
+      spelled = is_word_token (spelling_of C90 (text_of names n)) (and_second _ _ h);
       same = ap (λ m. s.Word (record { 0 = m })) (number_is names n.0 distinct within);
     }
 
@@ -91,6 +102,7 @@ integer_written names n distinct h =
     let within : n.0 < length names = ltb-true n.0 (length names) (and_first _ _ h) in
     record {
       sort = integer;
-      spelled = is_integer_token (spelling_of (text_of names n)) (and_second _ _ h);
+      plain = tt;
+      spelled = is_integer_token (spelling_of C90 (text_of names n)) (and_second _ _ h);
       same = ap (λ m. s.Int (record { 0 = m })) (number_is names n.0 distinct within);
     }

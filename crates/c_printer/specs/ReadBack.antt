@@ -3,6 +3,7 @@ use Rattle.std.specs.Prelude.{◌≡◌, ℕ, ◌+◌, List, [], ◌∷◌, leng
 use Rattle.std.specs.List.{AllPass, IsDistinct}
 use Rattle.c_tokens.specs.declared.token.Shape.TheVariants.{End}
 use Rattle.c_tokens.specs.declared.token.Token.{Token}
+use Rattle.c_tokens.specs.declared.lexical.Dialect.TheVariants.{C90}
 use Rattle.c_tokens.specs.Tokens.{tokens_of}
 use Rattle.c_trees.specs.Named.{is_named_declaration}
 use Rattle.c_trees.specs.Pure.{is_pure_declaration}
@@ -19,7 +20,7 @@ SpellInTurn d w (t ∷ others) i j = (middle : ℕ) × SpellsDeclaration d w Non
 -- A text whose tokens are those of the declarations and the end of the source.
 pub record ReadsBack (names : List (List ℕ)) (items : List Declaration) (text : List ℕ) : Type 0 where
   pub tokens : List Token
-  pub lexed : tokens_of names text ≡ Ok tokens
+  pub lexed : tokens_of C90 names text ≡ Ok tokens
   pub last : ℕ
   pub spelled : SpellInTurn (deepest items) tokens items 0 last
   pub ends : shape_at tokens last ≡ End

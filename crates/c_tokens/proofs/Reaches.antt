@@ -1,13 +1,18 @@
 -- Which spelling is the longest, by how a text begins.
-use Rattle.std.proofs.Common.{◌≡◌, refl, ap, ◌∙◌, ℕ, zero, suc, ◌+◌, ◌<◌, ◌≤◌, Bool, true, false, cond, not, ◌&&◌, ◌||◌, List, [], ◌∷◌, length, take, Some, None, is_some, nat_eq, arith, if◌then◌else◌}
+use Rattle.std.proofs.Common.{◌≡◌, refl, ap, ◌∙◌, ℕ, zero, suc, ◌+◌, ◌<◌, ◌≤◌, Bool, true, false, cond, ◌&&◌, ◌||◌, List, [], ◌∷◌, length, take, Some, None, is_some, nat_eq, arith}
 use Rattle.std.specs.List.{list_all, prefix_len}
 use Rattle.std.proofs.lemmas.Bool.Decides.{nat_tests}
 use Rattle.std.proofs.lemmas.List.Sums.{prefix_len-le-length}
-use Rattle.c_tokens.specs.Bytes.{is_digit, is_letter, is_word_byte, is_white_space, is_sign, is_exponent_mark}
-use Rattle.c_tokens.specs.Spelling.{punctuators, sign_marks, unread, word_marks, is_word, is_word_after_at, is_marked_word, is_number, goes_on_number, starts_with_digit, is_space, is_decimal, space, token, refused, integer, word_spelling, mark_or_refused, sign_spelling, spelling_of, find_text}
-use Rattle.c_tokens.specs.Runs.{word_run, number_run, starts_with_letter, is_quote, starts_with_quote, starts_wide, starts_white, starts_number, starts_after_at, starts_after_backquote}
+use Rattle.c_tokens.specs.Bytes.{is_digit, is_letter, is_word_byte, is_white_space, is_sign, is_exponent_mark, is_quote}
+use Rattle.c_tokens.specs.declared.lexical.Dialect.{Dialect}
+use Rattle.c_tokens.specs.declared.lexical.Dialect.TheVariants.{C90, C95}
+use Rattle.c_tokens.specs.Constants.{starts_with_digit}
+use Rattle.c_tokens.specs.Literals.{starts_with_quote, starts_wide, starts_literal}
+use Rattle.c_tokens.specs.Skipped.{starts_with_byte, starts_comment, starts_percent_colon, starts_directive, is_c95}
+use Rattle.c_tokens.specs.Spelling.{punctuators, other_punctuators, sign_marks, word_marks, is_word, is_word_after_at, is_marked_word, is_number, goes_on_number, is_space, space, word_spelling, number_spelling, mark_or_refused, stray_spelling, sign_spelling, spelling_of, find_text}
+use Rattle.c_tokens.specs.Runs.{opens, word_run, number_run, starts_with_letter, starts_white, starts_number, starts_after_at, starts_after_backquote}
 use Rattle.c_tokens.proofs.Longest.{IsLongest}
-use Rattle.c_tokens.proofs.Tables.{and_true, and_false, differs, no_sign, spelling-word, spelling-marked, spelling-number, spelling-space, spelling-none}
+use Rattle.c_tokens.proofs.Tables.{and_true, and_false, differs, or_false, no_long_sign, spelling-word, spelling-marked, spelling-number, spelling-space, spelling-none}
 
 -- bytes
 
@@ -61,6 +66,50 @@ no_space b (x ∷ t) e = refl
 no_long_space : (b x : ℕ) (t : List ℕ) → is_space (b ∷ x ∷ t) ≡ false
 unfolding is_space
 no_long_space b x t = refl
+
+-- a beginning of a text that opens nothing
+
+no_wide_beginning : (b : ℕ) (r : List ℕ) (k : ℕ) → starts_wide (b ∷ r) ≡ false → starts_wide (b ∷ take k r) ≡ false
+unfolding starts_wide starts_with_quote
+no_wide_beginning b r zero h = and_false (nat_eq b 76) false refl
+no_wide_beginning b [] (suc k) h = h
+no_wide_beginning b (x ∷ r) (suc k) h = h
+
+no_comment_beginning : (b : ℕ) (r : List ℕ) (k : ℕ) → starts_comment (b ∷ r) ≡ false → starts_comment (b ∷ take k r) ≡ false
+unfolding starts_comment starts_with_byte
+no_comment_beginning b r zero h = and_false (nat_eq b 47) false refl
+no_comment_beginning b [] (suc k) h = h
+no_comment_beginning b (x ∷ r) (suc k) h = h
+
+no_percent_beginning : (b : ℕ) (r : List ℕ) (k : ℕ) → starts_percent_colon (b ∷ r) ≡ false → starts_percent_colon (b ∷ take k r) ≡ false
+unfolding starts_percent_colon starts_with_byte
+no_percent_beginning b r zero h = and_false (nat_eq b 37) false refl
+no_percent_beginning b [] (suc k) h = h
+no_percent_beginning b (x ∷ r) (suc k) h = h
+
+no_other_beginning : (d : Dialect) (b : ℕ) (r : List ℕ) (k : ℕ) → (is_c95 d && starts_percent_colon (b ∷ r)) ≡ false → (is_c95 d && starts_percent_colon (b ∷ take k r)) ≡ false
+no_other_beginning C90 b r k h = refl
+no_other_beginning C95 b r k h = no_percent_beginning b r k h
+
+neither : (a b : Bool) → a ≡ false → b ≡ false → (a || b) ≡ false
+neither a b e f = ap (λ c. c || b) e ∙ f
+
+pub opens-beginning : (d : Dialect) (b : ℕ) (r : List ℕ) (k : ℕ) → opens d (b ∷ r) ≡ false → opens d (b ∷ take k r) ≡ false
+unfolding opens starts_literal starts_with_quote starts_directive starts_with_byte
+opens-beginning d b r k o =
+    let h = or_false (starts_literal (b ∷ r) || starts_comment (b ∷ r)) (starts_directive d (b ∷ r)) o in
+    let i = or_false (starts_literal (b ∷ r)) (starts_comment (b ∷ r)) h.0 in
+    let l = or_false (is_quote b) (starts_wide (b ∷ r)) i.0 in
+    let e = or_false (nat_eq b 35) (is_c95 d && starts_percent_colon (b ∷ r)) h.1 in
+    neither (starts_literal (b ∷ take k r) || starts_comment (b ∷ take k r)) (starts_directive d (b ∷ take k r))
+    (neither (starts_literal (b ∷ take k r)) (starts_comment (b ∷ take k r)) (neither (is_quote b) (starts_wide (b ∷ take k r)) l.0 (no_wide_beginning b r k l.1)) (no_comment_beginning b r k i.1))
+    (neither (nat_eq b 35) (is_c95 d && starts_percent_colon (b ∷ take k r)) e.0 (no_other_beginning d b r k e.1))
+
+no_stray : (b k : ℕ) (r : List ℕ) → 0 < k → k ≤ length r → stray_spelling (b ∷ take k r) ≡ None
+unfolding stray_spelling
+no_stray b zero r some within = absurd (omega arith)
+no_stray b (suc k) [] some within = absurd (omega arith)
+no_stray b (suc k) (x ∷ r) some within = refl
 
 -- a run of elements that pass, and beyond it
 
@@ -120,49 +169,38 @@ number_run-le before (x ∷ r) = run_within (is_word_byte x || nat_eq x 46 || (i
 
 -- a word
 
-is_plain : List ℕ → Bool
-is_plain t = starts_with_letter t && not (starts_wide t)
-
-plain_beginning : (b : ℕ) (r : List ℕ) (k : ℕ) → starts_wide (b ∷ r) ≡ false → starts_wide (b ∷ take k r) ≡ false
-unfolding starts_wide starts_with_quote
-plain_beginning b r zero h = ap (λ c. c) (and_false (nat_eq b 76) false refl)
-plain_beginning b [] (suc k) h = h
-plain_beginning b (x ∷ r) (suc k) h = h
-
-plain : (b : ℕ) (t : List ℕ) → is_letter b ≡ true → starts_wide (b ∷ t) ≡ false → is_plain (b ∷ t) ≡ true
-unfolding is_plain starts_with_letter
-plain b t e w = ap (λ c. c && not (starts_wide (b ∷ t))) e ∙ ap not w
-
 word_past : (b : ℕ) (r : List ℕ) (k : ℕ) → word_run r < k → k ≤ length r → is_word (b ∷ take k r) ≡ false
 unfolding is_word
 word_past b r k past within = and_false (is_letter b) (list_all is_word_byte (take k r)) (run_past is_word_byte r k past within)
 
-no_plain_sign : (t : List ℕ) → is_plain t ≡ true → sign_spelling t ≡ None
-unfolding is_plain punctuators sign_marks unread starts_with_letter is_letter starts_wide starts_with_quote is_quote
-no_plain_sign t h = no_sign is_plain t h refl refl refl
+no_letter_sign : (d : Dialect) (t : List ℕ) → stray_spelling t ≡ None → starts_with_letter t ≡ true → sign_spelling d t ≡ None
+unfolding punctuators sign_marks other_punctuators starts_with_letter is_letter
+no_letter_sign d t s h = no_long_sign d starts_with_letter t s h refl refl refl
 
 letter-other : (b : ℕ) → is_letter b ≡ true → (nat_eq b 64 ≡ false) × (nat_eq b 96 ≡ false) × (nat_eq b 46 ≡ false)
 unfolding is_letter
 letter-other b e = (differs is_letter b 64 e refl, differs is_letter b 96 e refl, differs is_letter b 46 e refl)
 
-longer_than_word : (b : ℕ) (r : List ℕ) → is_letter b ≡ true → starts_wide (b ∷ r) ≡ false → (m : ℕ) → suc (word_run r) < m → m ≤ length (b ∷ r) → is_some (spelling_of (take m (b ∷ r))) ≡ false
-longer_than_word b r e w zero past within = absurd (omega arith)
-longer_than_word b r e w (suc k) past within =
+longer_than_word : (d : Dialect) (b : ℕ) (r : List ℕ) → is_letter b ≡ true → opens d (b ∷ r) ≡ false → (m : ℕ) → suc (word_run r) < m → m ≤ length (b ∷ r) → is_some (spelling_of d (take m (b ∷ r))) ≡ false
+unfolding starts_with_letter
+longer_than_word d b r e w zero past within = absurd (omega arith)
+longer_than_word d b r e w (suc k) past within =
     let o = letter-other b e in
-    spelling-none (b ∷ take k r) (word_past b r k (omega arith) (at_most k b r within)) (no_marked b (take k r) o.0 o.1) (no_number b (take k r) (letter-digit b e) o.2)
-    (no_space b (take k r) (letter-space b e)) (no_plain_sign (b ∷ take k r) (plain b (take k r) e (plain_beginning b r k w)))
+    let n : k ≤ length r = at_most k b r within in
+    spelling-none d (b ∷ take k r) (opens-beginning d b r k w) (word_past b r k (omega arith) n) (no_marked b (take k r) o.0 o.1) (no_number b (take k r) (letter-digit b e) o.2)
+    (no_space b (take k r) (letter-space b e)) (no_letter_sign d (b ∷ take k r) (no_stray b k r (omega arith) n) e)
 
-pub spelled-word : (b : ℕ) (r : List ℕ) → is_letter b ≡ true → spelling_of (b ∷ take (word_run r) r) ≡ Some (word_spelling (b ∷ take (word_run r) r))
+pub spelled-word : (d : Dialect) (b : ℕ) (r : List ℕ) → opens d (b ∷ r) ≡ false → is_letter b ≡ true → spelling_of d (b ∷ take (word_run r) r) ≡ Some (word_spelling (b ∷ take (word_run r) r))
 unfolding is_word
-spelled-word b r e = spelling-word (b ∷ take (word_run r) r) (ap (λ c. c && list_all is_word_byte (take (word_run r) r)) e ∙ run_passes is_word_byte r)
+spelled-word d b r o e = spelling-word d (b ∷ take (word_run r) r) (opens-beginning d b r (word_run r) o) (ap (λ c. c && list_all is_word_byte (take (word_run r) r)) e ∙ run_passes is_word_byte r)
 
-pub word-longest : (b : ℕ) (r : List ℕ) → is_letter b ≡ true → starts_wide (b ∷ r) ≡ false → IsLongest (b ∷ r) (suc (word_run r))
+pub word-longest : (d : Dialect) (b : ℕ) (r : List ℕ) → opens d (b ∷ r) ≡ false → is_letter b ≡ true → IsLongest d (b ∷ r) (suc (word_run r))
 unfolding is_word
-word-longest b r e w = record {
+word-longest d b r o e = record {
   some = omega arith;
   within = omega (arith, prefix_len-le-length is_word_byte r);
-  spells = ap is_some (spelled-word b r e);
-  longer = longer_than_word b r e w;
+  spells = ap is_some (spelled-word d b r o e);
+  longer = longer_than_word d b r e o;
 }
 
 -- a number
@@ -202,21 +240,22 @@ number_beginning b r zero some h = absurd (omega arith)
 number_beginning b [] (suc k) some h = h
 number_beginning b (x ∷ r) (suc k) some h = h
 
-no_number_sign : (t : List ℕ) → starts_number t ≡ true → sign_spelling t ≡ None
-unfolding starts_number starts_with_digit is_digit punctuators sign_marks unread
-no_number_sign t h = no_sign starts_number t h refl refl refl
+no_number_sign : (d : Dialect) (t : List ℕ) → stray_spelling t ≡ None → starts_number t ≡ true → sign_spelling d t ≡ None
+unfolding starts_number starts_with_digit is_digit punctuators sign_marks other_punctuators
+no_number_sign d t s h = no_long_sign d starts_number t s h refl refl refl
 
 number_beyond : (b : ℕ) (r : List ℕ) (k : ℕ) → number_run b r < k → k ≤ length r → is_number (b ∷ take k r) ≡ false
 unfolding is_number
 number_beyond b r k past within = and_false (is_digit b || (nat_eq b 46 && starts_with_digit (take k r))) (goes_on_number b (take k r)) (number_past b r k past within)
 
-longer_than_number : (b : ℕ) (r : List ℕ) → starts_number (b ∷ r) ≡ true → (m : ℕ) → suc (number_run b r) < m → m ≤ length (b ∷ r) → is_some (spelling_of (take m (b ∷ r))) ≡ false
-longer_than_number b r e zero past within = absurd (omega arith)
-longer_than_number b r e (suc k) past within =
+longer_than_number : (d : Dialect) (b : ℕ) (r : List ℕ) → opens d (b ∷ r) ≡ false → starts_number (b ∷ r) ≡ true → (m : ℕ) → suc (number_run b r) < m → m ≤ length (b ∷ r) → is_some (spelling_of d (take m (b ∷ r))) ≡ false
+longer_than_number d b r p e zero past within = absurd (omega arith)
+longer_than_number d b r p e (suc k) past within =
     let n = starts-numeric b r e in
     let o = numeric-other b n in
-    spelling-none (b ∷ take k r) (no_word b (take k r) (numeric-letter b n)) (no_marked b (take k r) o.0 o.1) (number_beyond b r k (omega arith) (at_most k b r within))
-    (no_space b (take k r) (numeric-space b n)) (no_number_sign (b ∷ take k r) (number_beginning b r k (omega arith) e))
+    let i : k ≤ length r = at_most k b r within in
+    spelling-none d (b ∷ take k r) (opens-beginning d b r k p) (no_word b (take k r) (numeric-letter b n)) (no_marked b (take k r) o.0 o.1) (number_beyond b r k (omega arith) i)
+    (no_space b (take k r) (numeric-space b n)) (no_number_sign d (b ∷ take k r) (no_stray b k r (omega arith) i) (number_beginning b r k (omega arith) e))
 
 or_right : (a b : Bool) → b ≡ true → (a || b) ≡ true
 or_right true b h = refl
@@ -257,19 +296,19 @@ whole_number : (b : ℕ) (t : List ℕ) → starts_number (b ∷ t) ≡ true →
 unfolding is_number starts_number
 whole_number b t e g = ap (λ c. c && goes_on_number b t) e ∙ g
 
-pub spelled-number : (b : ℕ) (r : List ℕ) → starts_number (b ∷ r) ≡ true → spelling_of (b ∷ take (number_run b r) r) ≡ Some (if is_decimal (b ∷ take (number_run b r) r) then token integer else refused)
-spelled-number b r e =
+pub spelled-number : (d : Dialect) (b : ℕ) (r : List ℕ) → opens d (b ∷ r) ≡ false → starts_number (b ∷ r) ≡ true → spelling_of d (b ∷ take (number_run b r) r) ≡ Some (number_spelling (b ∷ take (number_run b r) r))
+spelled-number d b r p e =
     let n = starts-numeric b r e in
     let o = numeric-other b n in
     let t : List ℕ = take (number_run b r) r in
-    spelling-number (b ∷ t) (no_word b t (numeric-letter b n)) (no_marked b t o.0 o.1) (whole_number b t (number_reached b r e) (number_passes b r))
+    spelling-number d (b ∷ t) (opens-beginning d b r (number_run b r) p) (no_word b t (numeric-letter b n)) (no_marked b t o.0 o.1) (whole_number b t (number_reached b r e) (number_passes b r))
 
-pub number-longest : (b : ℕ) (r : List ℕ) → starts_number (b ∷ r) ≡ true → IsLongest (b ∷ r) (suc (number_run b r))
-number-longest b r e = record {
+pub number-longest : (d : Dialect) (b : ℕ) (r : List ℕ) → opens d (b ∷ r) ≡ false → starts_number (b ∷ r) ≡ true → IsLongest d (b ∷ r) (suc (number_run b r))
+number-longest d b r p e = record {
   some = omega arith;
   within = omega (arith, number_run-le b r);
-  spells = ap is_some (spelled-number b r e);
-  longer = longer_than_number b r e;
+  spells = ap is_some (spelled-number d b r p e);
+  longer = longer_than_number d b r p e;
 }
 
 -- a word after `@`, or after a backquote and `@`
@@ -294,13 +333,27 @@ whole_word : (b : ℕ) (r : List ℕ) → is_letter b ≡ true → is_word (b �
 unfolding is_word
 whole_word b r e = ap (λ c. c && list_all is_word_byte (take (word_run r) r)) e ∙ run_passes is_word_byte r
 
-no_at_sign : (t : List ℕ) → starts_after_at t ≡ true → sign_spelling t ≡ None
-unfolding starts_after_at starts_with_letter is_letter punctuators sign_marks unread
-no_at_sign t h = no_sign starts_after_at t h refl refl refl
+no_at_sign : (d : Dialect) (t : List ℕ) → stray_spelling t ≡ None → starts_after_at t ≡ true → sign_spelling d t ≡ None
+unfolding starts_after_at starts_with_letter is_letter punctuators sign_marks other_punctuators
+no_at_sign d t s h = no_long_sign d starts_after_at t s h refl refl refl
 
-no_backquote_sign : (t : List ℕ) → starts_after_backquote t ≡ true → sign_spelling t ≡ None
-unfolding starts_after_backquote starts_after_at starts_with_letter is_letter punctuators sign_marks unread
-no_backquote_sign t h = no_sign starts_after_backquote t h refl refl refl
+no_backquote_sign : (d : Dialect) (t : List ℕ) → stray_spelling t ≡ None → starts_after_backquote t ≡ true → sign_spelling d t ≡ None
+unfolding starts_after_backquote starts_after_at starts_with_letter is_letter punctuators sign_marks other_punctuators
+no_backquote_sign d t s h = no_long_sign d starts_after_backquote t s h refl refl refl
+
+at_opens : (d : Dialect) (t : List ℕ) → opens d (64 ∷ t) ≡ false
+unfolding opens starts_literal starts_with_quote starts_wide is_quote starts_comment starts_directive starts_with_byte starts_percent_colon
+at_opens C90 t = refl
+at_opens C95 t = refl
+
+backquote_opens : (d : Dialect) (t : List ℕ) → opens d (96 ∷ t) ≡ false
+unfolding opens starts_literal starts_with_quote starts_wide is_quote starts_comment starts_directive starts_with_byte starts_percent_colon
+backquote_opens C90 t = refl
+backquote_opens C95 t = refl
+
+stray_pair : (b c : ℕ) (t : List ℕ) → stray_spelling (b ∷ c ∷ t) ≡ None
+unfolding stray_spelling
+stray_pair b c t = refl
 
 at_letter : (b : ℕ) (t : List ℕ) → is_letter b ≡ true → starts_after_at (64 ∷ b ∷ t) ≡ true
 unfolding starts_after_at starts_with_letter
@@ -318,80 +371,81 @@ backquote-other : (t : List ℕ) → (is_word (96 ∷ t) ≡ false) × (is_numbe
 unfolding is_letter is_digit is_white_space
 backquote-other t = (no_word 96 t refl, no_number 96 t refl refl, no_space 96 t refl)
 
-pub spelled-after_at : (b : ℕ) (r : List ℕ) → is_letter b ≡ true → spelling_of (64 ∷ b ∷ take (word_run r) r) ≡ Some (mark_or_refused (find_text (64 ∷ b ∷ take (word_run r) r) word_marks))
-spelled-after_at b r e =
+pub spelled-after_at : (d : Dialect) (b : ℕ) (r : List ℕ) → is_letter b ≡ true → spelling_of d (64 ∷ b ∷ take (word_run r) r) ≡ Some (mark_or_refused (find_text (64 ∷ b ∷ take (word_run r) r) word_marks))
+spelled-after_at d b r e =
     let t : List ℕ = take (word_run r) r in
-    spelling-marked (64 ∷ b ∷ t) (at-other (b ∷ t)).0 (a_word_after_at b t (whole_word b r e))
+    spelling-marked d (64 ∷ b ∷ t) (at_opens d (b ∷ t)) (at-other (b ∷ t)).0 (a_word_after_at b t (whole_word b r e))
 
-pub spelled-after_backquote : (b : ℕ) (r : List ℕ) → is_letter b ≡ true → spelling_of (96 ∷ 64 ∷ b ∷ take (word_run r) r) ≡ Some (mark_or_refused (find_text (96 ∷ 64 ∷ b ∷ take (word_run r) r) word_marks))
-spelled-after_backquote b r e =
+pub spelled-after_backquote : (d : Dialect) (b : ℕ) (r : List ℕ) → is_letter b ≡ true → spelling_of d (96 ∷ 64 ∷ b ∷ take (word_run r) r) ≡ Some (mark_or_refused (find_text (96 ∷ 64 ∷ b ∷ take (word_run r) r) word_marks))
+spelled-after_backquote d b r e =
     let t : List ℕ = take (word_run r) r in
-    spelling-marked (96 ∷ 64 ∷ b ∷ t) (backquote-other (64 ∷ b ∷ t)).0 (a_word_after_backquote b t (whole_word b r e))
+    spelling-marked d (96 ∷ 64 ∷ b ∷ t) (backquote_opens d (64 ∷ b ∷ t)) (backquote-other (64 ∷ b ∷ t)).0 (a_word_after_backquote b t (whole_word b r e))
 
-longer_after_at : (b : ℕ) (r : List ℕ) → is_letter b ≡ true → (m : ℕ) → suc (suc (word_run r)) < m → m ≤ length (64 ∷ b ∷ r) → is_some (spelling_of (take m (64 ∷ b ∷ r))) ≡ false
-longer_after_at b r e zero past within = absurd (omega arith)
-longer_after_at b r e (suc zero) past within = absurd (omega arith)
-longer_after_at b r e (suc (suc k)) past within =
+longer_after_at : (d : Dialect) (b : ℕ) (r : List ℕ) → is_letter b ≡ true → (m : ℕ) → suc (suc (word_run r)) < m → m ≤ length (64 ∷ b ∷ r) → is_some (spelling_of d (take m (64 ∷ b ∷ r))) ≡ false
+longer_after_at d b r e zero past within = absurd (omega arith)
+longer_after_at d b r e (suc zero) past within = absurd (omega arith)
+longer_after_at d b r e (suc (suc k)) past within =
     let o = at-other (b ∷ take k r) in
-    spelling-none (64 ∷ b ∷ take k r) o.0 (no_word_after_at b (take k r) (word_past b r k (omega arith) (omega arith))) o.1 o.2 (no_at_sign (64 ∷ b ∷ take k r) (at_letter b (take k r) e))
+    spelling-none d (64 ∷ b ∷ take k r) (at_opens d (b ∷ take k r)) o.0 (no_word_after_at b (take k r) (word_past b r k (omega arith) (omega arith))) o.1 o.2 (no_at_sign d (64 ∷ b ∷ take k r) (stray_pair 64 b (take k r)) (at_letter b (take k r) e))
 
-longer_after_backquote : (b : ℕ) (r : List ℕ) → is_letter b ≡ true → (m : ℕ) → suc (suc (suc (word_run r))) < m → m ≤ length (96 ∷ 64 ∷ b ∷ r) → is_some (spelling_of (take m (96 ∷ 64 ∷ b ∷ r))) ≡ false
-longer_after_backquote b r e zero past within = absurd (omega arith)
-longer_after_backquote b r e (suc zero) past within = absurd (omega arith)
-longer_after_backquote b r e (suc (suc zero)) past within = absurd (omega arith)
-longer_after_backquote b r e (suc (suc (suc k))) past within =
+longer_after_backquote : (d : Dialect) (b : ℕ) (r : List ℕ) → is_letter b ≡ true → (m : ℕ) → suc (suc (suc (word_run r))) < m → m ≤ length (96 ∷ 64 ∷ b ∷ r) → is_some (spelling_of d (take m (96 ∷ 64 ∷ b ∷ r))) ≡ false
+longer_after_backquote d b r e zero past within = absurd (omega arith)
+longer_after_backquote d b r e (suc zero) past within = absurd (omega arith)
+longer_after_backquote d b r e (suc (suc zero)) past within = absurd (omega arith)
+longer_after_backquote d b r e (suc (suc (suc k))) past within =
     let o = backquote-other (64 ∷ b ∷ take k r) in
-    spelling-none (96 ∷ 64 ∷ b ∷ take k r) o.0 (no_word_after_backquote b (take k r) (word_past b r k (omega arith) (omega arith))) o.1 o.2 (no_backquote_sign (96 ∷ 64 ∷ b ∷ take k r) (backquote_letter b (take k r) e))
+    spelling-none d (96 ∷ 64 ∷ b ∷ take k r) (backquote_opens d (64 ∷ b ∷ take k r)) o.0 (no_word_after_backquote b (take k r) (word_past b r k (omega arith) (omega arith))) o.1 o.2 (no_backquote_sign d (96 ∷ 64 ∷ b ∷ take k r) (stray_pair 96 64 (b ∷ take k r)) (backquote_letter b (take k r) e))
 
-pub after_at-longest : (b : ℕ) (r : List ℕ) → is_letter b ≡ true → IsLongest (64 ∷ b ∷ r) (suc (suc (word_run r)))
-after_at-longest b r e = record {
+pub after_at-longest : (d : Dialect) (b : ℕ) (r : List ℕ) → is_letter b ≡ true → IsLongest d (64 ∷ b ∷ r) (suc (suc (word_run r)))
+after_at-longest d b r e = record {
   some = omega arith;
   within = omega (arith, prefix_len-le-length is_word_byte r);
-  spells = ap is_some (spelled-after_at b r e);
-  longer = longer_after_at b r e;
+  spells = ap is_some (spelled-after_at d b r e);
+  longer = longer_after_at d b r e;
 }
 
-pub after_backquote-longest : (b : ℕ) (r : List ℕ) → is_letter b ≡ true → IsLongest (96 ∷ 64 ∷ b ∷ r) (suc (suc (suc (word_run r))))
-after_backquote-longest b r e = record {
+pub after_backquote-longest : (d : Dialect) (b : ℕ) (r : List ℕ) → is_letter b ≡ true → IsLongest d (96 ∷ 64 ∷ b ∷ r) (suc (suc (suc (word_run r))))
+after_backquote-longest d b r e = record {
   some = omega arith;
   within = omega (arith, prefix_len-le-length is_word_byte r);
-  spells = ap is_some (spelled-after_backquote b r e);
-  longer = longer_after_backquote b r e;
+  spells = ap is_some (spelled-after_backquote d b r e);
+  longer = longer_after_backquote d b r e;
 }
 
 -- white space
 
-no_white_sign : (t : List ℕ) → starts_white t ≡ true → sign_spelling t ≡ None
-unfolding starts_white is_white_space punctuators sign_marks unread
-no_white_sign t h = no_sign starts_white t h refl refl refl
+no_white_sign : (d : Dialect) (t : List ℕ) → stray_spelling t ≡ None → starts_white t ≡ true → sign_spelling d t ≡ None
+unfolding starts_white is_white_space punctuators sign_marks other_punctuators
+no_white_sign d t s h = no_long_sign d starts_white t s h refl refl refl
 
 space-other : (b : ℕ) → is_white_space b ≡ true → (nat_eq b 64 ≡ false) × (nat_eq b 96 ≡ false) × (nat_eq b 46 ≡ false)
 unfolding is_white_space
 space-other b e = (differs is_white_space b 64 e refl, differs is_white_space b 96 e refl, differs is_white_space b 46 e refl)
 
-longer_than_space : (b : ℕ) (r : List ℕ) → is_white_space b ≡ true → (m : ℕ) → 1 < m → m ≤ length (b ∷ r) → is_some (spelling_of (take m (b ∷ r))) ≡ false
+longer_than_space : (d : Dialect) (b : ℕ) (r : List ℕ) → opens d (b ∷ r) ≡ false → is_white_space b ≡ true → (m : ℕ) → 1 < m → m ≤ length (b ∷ r) → is_some (spelling_of d (take m (b ∷ r))) ≡ false
 unfolding starts_white
-longer_than_space b r e zero past within = absurd (omega arith)
-longer_than_space b r e (suc zero) past within = absurd (omega arith)
-longer_than_space b [] e (suc (suc k)) past within = absurd (omega arith)
-longer_than_space b (x ∷ r) e (suc (suc k)) past within =
+longer_than_space d b r p e zero past within = absurd (omega arith)
+longer_than_space d b r p e (suc zero) past within = absurd (omega arith)
+longer_than_space d b [] p e (suc (suc k)) past within = absurd (omega arith)
+longer_than_space d b (x ∷ r) p e (suc (suc k)) past within =
     let o = space-other b e in
     let t : List ℕ = x ∷ take k r in
-    spelling-none (b ∷ t) (no_word b t (space-letter b e)) (no_marked b t o.0 o.1) (no_number b t (space-digit b e) o.2) (no_long_space b x (take k r)) (no_white_sign (b ∷ t) e)
+    spelling-none d (b ∷ t) (opens-beginning d b (x ∷ r) (suc k) p) (no_word b t (space-letter b e)) (no_marked b t o.0 o.1) (no_number b t (space-digit b e) o.2) (no_long_space b x (take k r))
+    (no_white_sign d (b ∷ t) (stray_pair b x (take k r)) e)
 
 a_space : (b : ℕ) → is_white_space b ≡ true → is_space (b ∷ []) ≡ true
 unfolding is_space
 a_space b e = e
 
-pub spelled-space : (b : ℕ) → is_white_space b ≡ true → spelling_of (b ∷ []) ≡ Some space
-spelled-space b e =
+pub spelled-space : (d : Dialect) (b : ℕ) (r : List ℕ) → opens d (b ∷ r) ≡ false → is_white_space b ≡ true → spelling_of d (b ∷ []) ≡ Some space
+spelled-space d b r p e =
     let o = space-other b e in
-    spelling-space (b ∷ []) (no_word b [] (space-letter b e)) (no_marked b [] o.0 o.1) (no_number b [] (space-digit b e) o.2) (a_space b e)
+    spelling-space d (b ∷ []) (opens-beginning d b r 0 p) (no_word b [] (space-letter b e)) (no_marked b [] o.0 o.1) (no_number b [] (space-digit b e) o.2) (a_space b e)
 
-pub space-longest : (b : ℕ) (r : List ℕ) → is_white_space b ≡ true → IsLongest (b ∷ r) 1
-space-longest b r e = record {
+pub space-longest : (d : Dialect) (b : ℕ) (r : List ℕ) → opens d (b ∷ r) ≡ false → is_white_space b ≡ true → IsLongest d (b ∷ r) 1
+space-longest d b r p e = record {
   some = omega arith;
   within = omega arith;
-  spells = ap is_some (spelled-space b e);
-  longer = longer_than_space b r e;
+  spells = ap is_some (spelled-space d b r p e);
+  longer = longer_than_space d b r p e;
 }

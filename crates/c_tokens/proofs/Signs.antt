@@ -1,16 +1,18 @@
--- Signs: punctuators, marks without words, and what is not read.
+-- Signs: punctuators, marks without words, and bytes that begin nothing.
 use Rattle.std.proofs.Common.{◌≡◌, refl, sym, ap, subst, ◌∙◌, ℕ, zero, suc, ◌<◌, ◌≤◌, Bool, true, false, cond, not, ◌&&◌, ◌||◌, List, [], ◌∷◌, length, take, map, Option, Some, None, is_some, nat_eq, nat_lt, bytes_eq, arith}
 use Rattle.std.specs.List.{starts_with}
-use Rattle.std.proofs.lemmas.Bool.{eqb-true}
 use Rattle.std.proofs.lemmas.Bool.Decides.{nat_tests}
 use Rattle.std.proofs.lemmas.List.{length-take, length-take-le}
 use Rattle.std.proofs.lemmas.Slice.Eq.{bytes_eq-Decides}
-use Rattle.c_tokens.specs.Bytes.{is_digit, is_letter, is_word_byte, is_white_space}
-use Rattle.c_tokens.specs.Spelling.{Table, find_text, punctuators, sign_marks, unread, is_word, is_word_after_at, is_marked_word, is_number, goes_on_number, starts_with_digit, is_space, Spelling, refused, sign_spelling, spelling_of}
-use Rattle.c_tokens.specs.Runs.{starts_with_letter, starts_number, starts_after_at, starts_after_backquote, starts_sign, first_prefix, is_quote}
-use Rattle.c_tokens.proofs.Longest.{IsLongest, HasNone}
-use Rattle.c_tokens.proofs.Tables.{and_true, not_true, none_passes, find-none, no_sign, spelling-sign, spelling-none}
-use Rattle.c_tokens.proofs.Reaches.{no_word, no_space}
+use Rattle.c_tokens.specs.Bytes.{is_digit, is_letter, is_white_space}
+use Rattle.c_tokens.specs.declared.lexical.Dialect.{Dialect}
+use Rattle.c_tokens.specs.declared.lexical.Dialect.TheVariants.{C90, C95}
+use Rattle.c_tokens.specs.Constants.{starts_with_digit}
+use Rattle.c_tokens.specs.Spelling.{Table, find_text, punctuators, others_in, other_punctuators, sign_marks, is_word, is_word_after_at, is_marked_word, is_number, goes_on_number, Spelling, stray_spelling, sign_spelling, spelling_of}
+use Rattle.c_tokens.specs.Runs.{opens, starts_with_letter, starts_number, starts_after_at, starts_after_backquote, starts_sign, first_prefix}
+use Rattle.c_tokens.proofs.Longest.{IsLongest}
+use Rattle.c_tokens.proofs.Tables.{and_true, not_true, none_passes, find-none, no_sign, spelling-sign}
+use Rattle.c_tokens.proofs.Reaches.{no_word, no_space, opens-beginning}
 
 -- where no other kind of spelling begins
 
@@ -56,40 +58,40 @@ no_number_begins b k r e =
     ap (λ c. c && goes_on_number b (take k r)) (either_false (is_digit b) (nat_eq b 46 && starts_with_digit (take k r)) h.0 (weaker (nat_eq b 46) (starts_with_digit r) (starts_with_digit (take k r)) h.1 (no_digit_begins k r)))
 
 -- only signs may stand there
-pub sign-only : (b : ℕ) (r : List ℕ) → starts_sign (b ∷ r) ≡ true → (k : ℕ) → spelling_of (b ∷ take k r) ≡ sign_spelling (b ∷ take k r)
+pub sign-only : (d : Dialect) (b : ℕ) (r : List ℕ) → opens d (b ∷ r) ≡ false → starts_sign (b ∷ r) ≡ true → (k : ℕ) → spelling_of d (b ∷ take k r) ≡ sign_spelling d (b ∷ take k r)
 unfolding starts_sign
-sign-only b r h k =
+sign-only d b r o h k =
     let h1 = and_true (not (is_letter b) && not (is_white_space b) && not (starts_number (b ∷ r)) && not (starts_after_at (b ∷ r))) (not (starts_after_backquote (b ∷ r))) h in
     let h2 = and_true (not (is_letter b) && not (is_white_space b) && not (starts_number (b ∷ r))) (not (starts_after_at (b ∷ r))) h1.0 in
     let h3 = and_true (not (is_letter b) && not (is_white_space b)) (not (starts_number (b ∷ r))) h2.0 in
     let h4 = and_true (not (is_letter b)) (not (is_white_space b)) h3.0 in
-    spelling-sign (b ∷ take k r) (no_word b (take k r) (not_true (is_letter b) h4.0)) (no_marked_begins b k r (not_true (starts_after_at (b ∷ r)) h2.1) (not_true (starts_after_backquote (b ∷ r)) h1.1))
+    spelling-sign d (b ∷ take k r) (opens-beginning d b r k o) (no_word b (take k r) (not_true (is_letter b) h4.0)) (no_marked_begins b k r (not_true (starts_after_at (b ∷ r)) h2.1) (not_true (starts_after_backquote (b ∷ r)) h1.1))
     (no_number_begins b k r (not_true (starts_number (b ∷ r)) h3.1)) (no_space b (take k r) (not_true (is_white_space b) h4.1))
 
--- a table of all signs, in which no text is longer than one before it
+-- a table of all signs, in which no text begins with a shorter one before it
 
 abbrev pub falls : {A : Type 0} → Table A → Bool
 falls [] = true
-falls (entry ∷ others) = none_passes (λ s. nat_lt (length entry.0) (length s)) others && falls others
+falls (entry ∷ others) = none_passes (λ s. nat_lt (length entry.0) (length s) && starts_with nat_eq s entry.0) others && falls others
 
 abbrev pub is_missing : {A : Type 0} → Table A → List ℕ → Bool
 is_missing table text = not (is_some (find_text text table))
 
-pub record HasAllSigns (table : Table Spelling) : Type 0 where
+pub record HasAllSigns (dialect : Dialect) (table : Table Spelling) : Type 0 where
   pub sorted : falls table ≡ true
-  pub sound : map (λ e. sign_spelling e.0) table ≡ map (λ e. Some e.1) table
+  pub sound : map (λ e. sign_spelling dialect e.0) table ≡ map (λ e. Some e.1) table
   pub has_punctuators : none_passes (is_missing table) punctuators ≡ true
   pub has_marks : none_passes (is_missing table) sign_marks ≡ true
-  pub has_unread : none_passes (is_missing table) unread ≡ true
+  pub has_others : none_passes (is_missing table) (others_in dialect) ≡ true
 
-missing_sign : (table : Table Spelling) → HasAllSigns table → (t : List ℕ) → find_text t table ≡ None → sign_spelling t ≡ None
-missing_sign table h t e = no_sign (is_missing table) t (ap (λ o. not (is_some o)) e) h.has_punctuators h.has_marks h.has_unread
+missing_sign : (d : Dialect) (table : Table Spelling) → HasAllSigns d table → (t : List ℕ) → find_text t table ≡ None → sign_spelling d t ≡ stray_spelling t
+missing_sign d table h t e = no_sign d (is_missing table) t (ap (λ o. not (is_some o)) e) h.has_punctuators h.has_marks h.has_others
 
 -- the entry that was found
-pub record Starts (text : List ℕ) (entry : List ℕ × Spelling) : Type 0 where
+pub record Starts (dialect : Dialect) (text : List ℕ) (entry : List ℕ × Spelling) : Type 0 where
   pub within : length entry.0 ≤ length text
   pub same : take (length entry.0) text ≡ entry.0
-  pub spelled : sign_spelling entry.0 ≡ Some entry.1
+  pub spelled : sign_spelling dialect entry.0 ≡ Some entry.1
 
 starts-same : (text p : List ℕ) → starts_with nat_eq text p ≡ true → p ≡ take (length p) text
 starts-same text p h = (bytes_eq-Decides p (take (length p) text)).0 h
@@ -97,12 +99,12 @@ starts-same text p h = (bytes_eq-Decides p (take (length p) text)).0 h
 starts-within : (text p : List ℕ) → p ≡ take (length p) text → length p ≤ length text
 starts-within text p e = omega (arith, ap length e, length-take (length p) text)
 
-found_here : (text : List ℕ) (here entry : List ℕ × Spelling) (rest : Option (List ℕ × Spelling)) (b : Bool) → starts_with nat_eq text here.0 ≡ b → sign_spelling here.0 ≡ Some here.1 → cond b (Some here) rest ≡ Some entry → (rest ≡ Some entry → Starts text entry) → Starts text entry
-found_here text here entry rest true e s h go =
+found_here : (d : Dialect) (text : List ℕ) (here entry : List ℕ × Spelling) (rest : Option (List ℕ × Spelling)) (b : Bool) → starts_with nat_eq text here.0 ≡ b → sign_spelling d here.0 ≡ Some here.1 → cond b (Some here) rest ≡ Some entry → (rest ≡ Some entry → Starts d text entry) → Starts d text entry
+found_here d text here entry rest true e s h go =
     let p = starts-same text here.0 e in
     let same : here ≡ entry = cc in
-    subst (Starts text) same (record { within = starts-within text here.0 p; same = sym p; spelled = s })
-found_here text here entry rest false e s h go = go h
+    subst (Starts d text) same (record { within = starts-within text here.0 p; same = sym p; spelled = s })
+found_here d text here entry rest false e s h go = go h
 
 first_is : (a b : Option Spelling) (xs ys : List (Option Spelling)) → (a ∷ xs) ≡ (b ∷ ys) → a ≡ b
 first_is a b xs ys e = cc
@@ -110,13 +112,13 @@ first_is a b xs ys e = cc
 others_are : (a b : Option Spelling) (xs ys : List (Option Spelling)) → (a ∷ xs) ≡ (b ∷ ys) → xs ≡ ys
 others_are a b xs ys e = cc
 
-found : (text : List ℕ) (table : Table Spelling) (entry : List ℕ × Spelling) → map (λ e. sign_spelling e.0) table ≡ map (λ e. Some e.1) table → first_prefix text table ≡ Some entry → Starts text entry
+found : (d : Dialect) (text : List ℕ) (table : Table Spelling) (entry : List ℕ × Spelling) → map (λ e. sign_spelling d e.0) table ≡ map (λ e. Some e.1) table → first_prefix text table ≡ Some entry → Starts d text entry
 unfolding first_prefix
-found text [] entry s h = absurd cc
-found text (here ∷ others) entry s h =
-    found_here text here entry (first_prefix text others) (starts_with nat_eq text here.0) refl
-    (first_is (sign_spelling here.0) (Some here.1) (map (λ e. sign_spelling e.0) others) (map (λ e. Some e.1) others) s) h
-    (λ i. found text others entry (others_are (sign_spelling here.0) (Some here.1) (map (λ e. sign_spelling e.0) others) (map (λ e. Some e.1) others) s) i)
+found d text [] entry s h = absurd cc
+found d text (here ∷ others) entry s h =
+    found_here d text here entry (first_prefix text others) (starts_with nat_eq text here.0) refl
+    (first_is (sign_spelling d here.0) (Some here.1) (map (λ e. sign_spelling d e.0) others) (map (λ e. Some e.1) others) s) h
+    (λ i. found d text others entry (others_are (sign_spelling d here.0) (Some here.1) (map (λ e. sign_spelling d e.0) others) (map (λ e. Some e.1) others) s) i)
 
 -- a beginning that is equal to a text starts with it
 equal_starts : (text p : List ℕ) (m : ℕ) → m ≤ length text → take m text ≡ p → starts_with nat_eq text p ≡ true
@@ -149,15 +151,30 @@ longer_text t p false l e = refl
 is_longer : (a b : ℕ) → a < b → nat_lt a b ≡ true
 is_longer a b h = grind (arith, nat_tests)
 
-beyond_here : (text : List ℕ) (here entry : List ℕ × Spelling) (others : Table Spelling) (m : ℕ) (b : Bool) → m ≤ length text → length entry.0 < m → none_passes (λ s. nat_lt (length here.0) (length s)) others ≡ true
+both : (a b : Bool) → a ≡ true → b ≡ true → (a && b) ≡ true
+both a b e f = ap (λ c. c && b) e ∙ f
+
+shorter_beginning : (text : List ℕ) (n m : ℕ) → n < m → take n (take m text) ≡ take n text
+shorter_beginning text zero m h = refl
+shorter_beginning text (suc n) zero h = absurd (omega arith)
+shorter_beginning [] (suc n) (suc m) h = refl
+shorter_beginning (b ∷ text) (suc n) (suc m) h = ap (λ t. b ∷ t) (shorter_beginning text n m (omega arith))
+
+-- a beginning that is longer than a text with which the whole starts
+starts_too : (text p : List ℕ) (m : ℕ) → starts_with nat_eq text p ≡ true → length p < m → starts_with nat_eq (take m text) p ≡ true
+starts_too text p m h l = (bytes_eq-Decides p (take (length p) (take m text))).1 (starts-same text p h ∙ sym (shorter_beginning text (length p) m l))
+
+beyond_here : (text : List ℕ) (here entry : List ℕ × Spelling) (others : Table Spelling) (m : ℕ) (b : Bool) → m ≤ length text → length entry.0 < m → none_passes (λ s. nat_lt (length here.0) (length s) && starts_with nat_eq s here.0) others ≡ true
     → starts_with nat_eq text here.0 ≡ b → cond b (Some here) (first_prefix text others) ≡ Some entry → (first_prefix text others ≡ Some entry → find_text (take m text) others ≡ None)
     → cond (bytes_eq (take m text) here.0) (Some here.1) (find_text (take m text) others) ≡ None
 beyond_here text here entry others m true within past sorted e h go =
     let same : here ≡ entry = cc in
     let n : length (take m text) ≡ m = length-take-le m text within in
-    let l : length here.0 < length (take m text) = omega (arith, n, ap (λ x. length x.0) same) in
+    let shorter : length here.0 < m = omega (arith, ap (λ x. length x.0) same) in
+    let l : length here.0 < length (take m text) = omega (arith, n, shorter) in
     miss (bytes_eq (take m text) here.0) here.1 (find_text (take m text) others) (longer_text (take m text) here.0 (bytes_eq (take m text) here.0) l refl)
-    (find-none (λ s. nat_lt (length here.0) (length s)) (take m text) others (is_longer (length here.0) (length (take m text)) l) sorted)
+    (find-none (λ s. nat_lt (length here.0) (length s) && starts_with nat_eq s here.0) (take m text) others
+    (both (nat_lt (length here.0) (length (take m text))) (starts_with nat_eq (take m text) here.0) (is_longer (length here.0) (length (take m text)) l) (starts_too text here.0 m e shorter)) sorted)
 beyond_here text here entry others m false within past sorted e h go =
     miss (bytes_eq (take m text) here.0) here.1 (find_text (take m text) others) (unequal text here.0 m (bytes_eq (take m text) here.0) within e refl) (go h)
 
@@ -165,86 +182,59 @@ beyond : (text : List ℕ) (table : Table Spelling) (entry : List ℕ × Spellin
 unfolding first_prefix find_text
 beyond text [] entry s h m past within = refl
 beyond text (here ∷ others) entry s h m past within =
-    let p = and_true (none_passes (λ s. nat_lt (length here.0) (length s)) others) (falls others) s in
+    let p = and_true (none_passes (λ s. nat_lt (length here.0) (length s) && starts_with nat_eq s here.0) others) (falls others) s in
     beyond_here text here entry others m (starts_with nat_eq text here.0) within past p.0 refl h (λ i. beyond text others entry p.1 i m past within)
 
-by_signs : (b : ℕ) (r : List ℕ) → starts_sign (b ∷ r) ≡ true → (n : ℕ) → 0 < n → spelling_of (take n (b ∷ r)) ≡ sign_spelling (take n (b ∷ r))
-by_signs b r s zero some = absurd (omega arith)
-by_signs b r s (suc k) some = sign-only b r s k
+by_signs : (d : Dialect) (b : ℕ) (r : List ℕ) → opens d (b ∷ r) ≡ false → starts_sign (b ∷ r) ≡ true → (n : ℕ) → 0 < n → spelling_of d (take n (b ∷ r)) ≡ sign_spelling d (take n (b ∷ r))
+by_signs d b r o s zero some = absurd (omega arith)
+by_signs d b r o s (suc k) some = sign-only d b r o s k
 
-no_empty_sign : (t : List ℕ) (x : Spelling) → sign_spelling t ≡ Some x → 0 < length t
-unfolding sign_spelling find_text punctuators sign_marks unread
-no_empty_sign [] x h = absurd cc
-no_empty_sign (b ∷ t) x h = omega arith
+no_empty_sign : (d : Dialect) → sign_spelling d [] ≡ None
+unfolding sign_spelling find_text punctuators other_punctuators sign_marks stray_spelling
+no_empty_sign C90 = refl
+no_empty_sign C95 = refl
+
+some_sign : (d : Dialect) (t : List ℕ) (x : Spelling) → sign_spelling d t ≡ Some x → 0 < length t
+some_sign d [] x h = absurd (let e = no_empty_sign d in cc)
+some_sign d (b ∷ t) x h = omega arith
 
 -- what the first entry says of a text where only signs may stand
 
-pub spelled-sign : (table : Table Spelling) → HasAllSigns table → (b : ℕ) (r : List ℕ) (entry : List ℕ × Spelling) → starts_sign (b ∷ r) ≡ true → first_prefix (b ∷ r) table ≡ Some entry → spelling_of (take (length entry.0) (b ∷ r)) ≡ Some entry.1
-spelled-sign table a b r entry s h =
-    let f = found (b ∷ r) table entry a.sound h in
-    by_signs b r s (length entry.0) (no_empty_sign entry.0 entry.1 f.spelled) ∙ ap sign_spelling f.same ∙ f.spelled
+pub spelled-sign : (d : Dialect) (table : Table Spelling) → HasAllSigns d table → (b : ℕ) (r : List ℕ) (entry : List ℕ × Spelling) → opens d (b ∷ r) ≡ false → starts_sign (b ∷ r) ≡ true → first_prefix (b ∷ r) table ≡ Some entry → spelling_of d (take (length entry.0) (b ∷ r)) ≡ Some entry.1
+spelled-sign d table a b r entry o s h =
+    let f = found d (b ∷ r) table entry a.sound h in
+    by_signs d b r o s (length entry.0) (some_sign d entry.0 entry.1 f.spelled) ∙ ap (sign_spelling d) f.same ∙ f.spelled
 
-pub sign-longest : (table : Table Spelling) → HasAllSigns table → (b : ℕ) (r : List ℕ) (entry : List ℕ × Spelling) → starts_sign (b ∷ r) ≡ true → first_prefix (b ∷ r) table ≡ Some entry → IsLongest (b ∷ r) (length entry.0)
-sign-longest table a b r entry s h =
-    let f = found (b ∷ r) table entry a.sound h in
+no_stray_beyond : (b m : ℕ) (r : List ℕ) → 1 < m → m ≤ length (b ∷ r) → stray_spelling (take m (b ∷ r)) ≡ None
+unfolding stray_spelling
+no_stray_beyond b zero r past within = absurd (omega arith)
+no_stray_beyond b (suc zero) r past within = absurd (omega arith)
+no_stray_beyond b (suc (suc k)) [] past within = absurd (omega arith)
+no_stray_beyond b (suc (suc k)) (x ∷ r) past within = refl
+
+pub sign-longest : (d : Dialect) (table : Table Spelling) → HasAllSigns d table → (b : ℕ) (r : List ℕ) (entry : List ℕ × Spelling) → opens d (b ∷ r) ≡ false → starts_sign (b ∷ r) ≡ true → first_prefix (b ∷ r) table ≡ Some entry → IsLongest d (b ∷ r) (length entry.0)
+sign-longest d table a b r entry o s h =
+    let f = found d (b ∷ r) table entry a.sound h in
+    let some = some_sign d entry.0 entry.1 f.spelled in
     record {
-      some = no_empty_sign entry.0 entry.1 f.spelled;
+      some = some;
       within = f.within;
-      spells = ap is_some (spelled-sign table a b r entry s h);
-      longer = λ m past within. ap is_some (by_signs b r s m (omega arith) ∙ missing_sign table a (take m (b ∷ r)) (beyond (b ∷ r) table entry a.sorted h m past within));
+      spells = ap is_some (spelled-sign d table a b r entry o s h);
+      longer = λ m past within.
+          ap is_some (by_signs d b r o s m (omega arith) ∙ missing_sign d table a (take m (b ∷ r)) (beyond (b ∷ r) table entry a.sorted h m past within) ∙ no_stray_beyond b m r (omega arith) within);
     }
 
-pub sign-none : (table : Table Spelling) → HasAllSigns table → (b : ℕ) (r : List ℕ) → starts_sign (b ∷ r) ≡ true → first_prefix (b ∷ r) table ≡ None → HasNone (b ∷ r)
-sign-none table a b r s h = record {
-  none = λ m some within. ap is_some (by_signs b r s m some ∙ missing_sign table a (take m (b ∷ r)) (not_found (b ∷ r) table h m within));
-}
+pub spelled-stray : (d : Dialect) (table : Table Spelling) → HasAllSigns d table → (b : ℕ) (r : List ℕ) → opens d (b ∷ r) ≡ false → starts_sign (b ∷ r) ≡ true → first_prefix (b ∷ r) table ≡ None → spelling_of d (b ∷ []) ≡ stray_spelling (b ∷ [])
+spelled-stray d table a b r o s h = by_signs d b r o s 1 (omega arith) ∙ missing_sign d table a (b ∷ []) (not_found (b ∷ r) table h 1 (omega arith))
 
--- `L` before a quote
+stray_some : (b : ℕ) → is_some (stray_spelling (b ∷ [])) ≡ true
+unfolding stray_spelling
+stray_some b = refl
 
-long_wide_none : (q x : ℕ) (t : List ℕ) → is_word (76 ∷ q ∷ x ∷ t) ≡ false → sign_spelling (76 ∷ q ∷ x ∷ t) ≡ None → is_some (spelling_of (76 ∷ q ∷ x ∷ t)) ≡ false
-unfolding is_marked_word is_word_after_at is_number is_digit is_space
-long_wide_none q x t e f = spelling-none (76 ∷ q ∷ x ∷ t) e refl refl refl f
-
-wide_beyond : (q : ℕ) (r : List ℕ) → ((x : ℕ) (t : List ℕ) → is_some (spelling_of (76 ∷ q ∷ x ∷ t)) ≡ false) → (m : ℕ) → 2 < m → m ≤ length (76 ∷ q ∷ r) → is_some (spelling_of (take m (76 ∷ q ∷ r))) ≡ false
-wide_beyond q r h zero past within = absurd (omega arith)
-wide_beyond q r h (suc zero) past within = absurd (omega arith)
-wide_beyond q r h (suc (suc zero)) past within = absurd (omega arith)
-wide_beyond q [] h (suc (suc (suc k))) past within = absurd (omega arith)
-wide_beyond q (x ∷ r) h (suc (suc (suc k))) past within = h x (take k r)
-
-spelled_double : spelling_of (76 ∷ 34 ∷ []) ≡ Some refused
-unfolding spelling_of is_word is_letter is_word_byte is_digit is_marked_word is_word_after_at is_number is_space sign_spelling find_text punctuators sign_marks unread
-spelled_double = refl
-
-spelled_single : spelling_of (76 ∷ 39 ∷ []) ≡ Some refused
-unfolding spelling_of is_word is_letter is_word_byte is_digit is_marked_word is_word_after_at is_number is_space sign_spelling find_text punctuators sign_marks unread
-spelled_single = refl
-
-longer_double : (x : ℕ) (t : List ℕ) → is_some (spelling_of (76 ∷ 34 ∷ x ∷ t)) ≡ false
-unfolding is_word is_letter is_word_byte is_digit sign_spelling find_text punctuators sign_marks unread
-longer_double x t = long_wide_none 34 x t refl refl
-
-longer_single : (x : ℕ) (t : List ℕ) → is_some (spelling_of (76 ∷ 39 ∷ x ∷ t)) ≡ false
-unfolding is_word is_letter is_word_byte is_digit sign_spelling find_text punctuators sign_marks unread
-longer_single x t = long_wide_none 39 x t refl refl
-
--- a byte that passes one of two comparisons
-one_of : (P : ℕ → Type 0) (q c d : ℕ) (b : Bool) → nat_eq q c ≡ b → (b || nat_eq q d) ≡ true → P c → P d → P q
-one_of P q c d true e h at_c at_d = subst P (sym (eqb-true q c e)) at_c
-one_of P q c d false e h at_c at_d = subst P (sym (eqb-true q d h)) at_d
-
-pub spelled-wide : (q : ℕ) → is_quote q ≡ true → spelling_of (76 ∷ q ∷ []) ≡ Some refused
-unfolding is_quote
-spelled-wide q e = one_of (λ c. spelling_of (76 ∷ c ∷ []) ≡ Some refused) q 34 39 (nat_eq q 34) refl e spelled_double spelled_single
-
-longer_wide : (q : ℕ) → is_quote q ≡ true → (x : ℕ) (t : List ℕ) → is_some (spelling_of (76 ∷ q ∷ x ∷ t)) ≡ false
-unfolding is_quote
-longer_wide q e = one_of (λ c. (x : ℕ) (t : List ℕ) → is_some (spelling_of (76 ∷ c ∷ x ∷ t)) ≡ false) q 34 39 (nat_eq q 34) refl e longer_double longer_single
-
-pub wide-longest : (q : ℕ) (r : List ℕ) → is_quote q ≡ true → IsLongest (76 ∷ q ∷ r) 2
-wide-longest q r e = record {
+pub stray-longest : (d : Dialect) (table : Table Spelling) → HasAllSigns d table → (b : ℕ) (r : List ℕ) → opens d (b ∷ r) ≡ false → starts_sign (b ∷ r) ≡ true → first_prefix (b ∷ r) table ≡ None → IsLongest d (b ∷ r) 1
+stray-longest d table a b r o s h = record {
   some = omega arith;
   within = omega arith;
-  spells = ap is_some (spelled-wide q e);
-  longer = wide_beyond q r (longer_wide q e);
+  spells = ap is_some (spelled-stray d table a b r o s h) ∙ stray_some b;
+  longer = λ m past within. ap is_some (by_signs d b r o s m (omega arith) ∙ missing_sign d table a (take m (b ∷ r)) (not_found (b ∷ r) table h m within) ∙ no_stray_beyond b m r past within);
 }

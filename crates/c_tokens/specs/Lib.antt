@@ -1,5 +1,10 @@
 pub mod Bytes
+pub mod ClassOf
+pub mod Constants
+pub mod Literals
+pub mod Skipped
 pub mod Spelling
+pub mod Shown
 pub mod Tokens
 pub mod Kinds
 pub mod Places

@@ -1,8 +1,12 @@
 -- How spellings begin, and how far a word or a number reaches.
-use Rattle.std.specs.Prelude.{ℕ, ◌+◌, Bool, false, not, List, [], ◌∷◌, Option, Some, None, ◌&&◌, ◌||◌, nat_eq, if◌then◌else◌}
+use Rattle.std.specs.Prelude.{◌≡◌, ℕ, ◌+◌, Bool, true, false, not, List, [], ◌∷◌, Option, Some, None, ◌&&◌, ◌||◌, nat_eq, if◌then◌else◌}
 use Rattle.std.specs.List.{prefix_len, starts_with}
 use Rattle.c_tokens.specs.Bytes.{is_digit, is_letter, is_word_byte, is_white_space, is_sign, is_exponent_mark}
-use Rattle.c_tokens.specs.Spelling.{Table, starts_with_digit}
+use Rattle.c_tokens.specs.declared.lexical.Dialect.{Dialect}
+use Rattle.c_tokens.specs.Constants.{starts_with_digit}
+use Rattle.c_tokens.specs.Literals.{starts_literal}
+use Rattle.c_tokens.specs.Skipped.{starts_with_byte, starts_comment, starts_directive}
+use Rattle.c_tokens.specs.Spelling.{Table}
 
 -- how many bytes of a text go on a word
 abbrev pub word_run : List ℕ → ℕ
@@ -20,19 +24,6 @@ starts_with_letter (b ∷ _) = is_letter b
 unfoldable pub starts_white : List ℕ → Bool
 starts_white [] = false
 starts_white (b ∷ _) = is_white_space b
-
--- " and '
-unfoldable pub is_quote : ℕ → Bool
-is_quote b = nat_eq b 34 || nat_eq b 39
-
-unfoldable pub starts_with_quote : List ℕ → Bool
-starts_with_quote [] = false
-starts_with_quote (b ∷ _) = is_quote b
-
--- `L` before a quote
-unfoldable pub starts_wide : List ℕ → Bool
-starts_wide [] = false
-starts_wide (b ∷ rest) = nat_eq b 76 && starts_with_quote rest
 
 unfoldable pub starts_number : List ℕ → Bool
 starts_number [] = false
@@ -58,3 +49,24 @@ starts_sign (b ∷ rest) =
 unfoldable pub first_prefix : {A : Type 0} → List ℕ → Table A → Option (List ℕ × A)
 first_prefix text [] = None
 first_prefix text (entry ∷ others) = if starts_with nat_eq text entry.0 then Some entry else first_prefix text others
+
+-- whether a literal, a comment or a directive begins
+unfoldable pub opens : Dialect → List ℕ → Bool
+opens dialect text = starts_literal text || starts_comment text || starts_directive dialect text
+
+-- a directive begins
+pub record OpensLine (dialect : Dialect) (text : List ℕ) : Type 0 where
+  pub no_literal : starts_literal text ≡ false
+  pub no_comment : starts_comment text ≡ false
+  pub directive : starts_directive dialect text ≡ true
+
+-- `<:`, `:>`, `<%`, `%>` or `%:`
+unfoldable pub starts_other : List ℕ → Bool
+starts_other [] = false
+starts_other (b ∷ rest) =
+    (nat_eq b 60 && (starts_with_byte 58 rest || starts_with_byte 37 rest)) || (nat_eq b 58 && starts_with_byte 62 rest) || (nat_eq b 37 && (starts_with_byte 62 rest || starts_with_byte 58 rest))
+
+-- a text in which these stand nowhere
+unfoldable pub has_no_other : List ℕ → Bool
+has_no_other [] = true
+has_no_other (b ∷ rest) = not (starts_other (b ∷ rest)) && has_no_other rest

@@ -1,5 +1,5 @@
 -- Which whole texts stand for something in extended C, and for what (ISO/IEC 9899:1990, 6.1).
-use Rattle.std.specs.Prelude.{ℕ, Bool, true, false, List, [], ◌∷◌, length, Option, Some, None, ◌&&◌, ◌||◌, not, if◌then◌else◌, nat_eq, nat_le, codes, bytes_eq}
+use Rattle.std.specs.Prelude.{ℕ, ◌+◌, ◌-◌, Bool, true, false, List, [], ◌∷◌, length, take, drop, Option, Some, None, ◌&&◌, ◌||◌, if◌then◌else◌, nat_eq, nat_le, codes, bytes_eq}
 use Rattle.std.specs.List.{list_all}
 use Rattle.c_tokens.specs.declared.token.TheConstants.{MAX_WORD_BYTES}
 use Rattle.c_tokens.specs.declared.token.Key.{Key}
@@ -8,7 +8,14 @@ use Rattle.c_tokens.specs.declared.token.Punct.{Punct}
 use Rattle.c_tokens.specs.declared.token.Punct.TheVariants as p
 use Rattle.c_tokens.specs.declared.token.Mark.{Mark}
 use Rattle.c_tokens.specs.declared.token.Mark.TheVariants as m
+use Rattle.c_tokens.specs.declared.lexical.Dialect.{Dialect}
+use Rattle.c_tokens.specs.declared.lexical.Dialect.TheVariants.{C90, C95}
+use Rattle.c_tokens.specs.declared.lexical.LexCause.{LexCause}
+use Rattle.c_tokens.specs.declared.lexical.LexCause.TheVariants as cause
 use Rattle.c_tokens.specs.Bytes.{is_digit, is_letter, is_word_byte, is_white_space, is_sign, is_exponent_mark}
+use Rattle.c_tokens.specs.Constants.{starts_with_digit, is_integer, is_floating}
+use Rattle.c_tokens.specs.Literals.{starts_literal, contents_start, quote_of, Met, inside, closing, spoiled, ending}
+use Rattle.c_tokens.specs.Skipped.{starts_comment, through_close, starts_directive, line_run, is_marker_line}
 
 -- texts, each with what it stands for
 abbrev pub Table : Type 0 → Type 0
@@ -65,9 +72,10 @@ sign_marks =
     ∷ (codes "$$+/", m.OneOrMoreBetween) ∷ (codes "$$*/", m.ZeroOrMoreBetween) ∷ (codes "$$?", m.Maybe)
     ∷ (codes "`(", m.QuoteParen) ∷ (codes "`{", m.QuoteBrace) ∷ []
 
--- How comments, literals and directives begin. They are refused there.
-unfoldable pub unread : Table (Unit {0})
-unread = (codes "/*", tt) ∷ (codes "'", tt) ∷ (codes "\"", tt) ∷ (codes "L'", tt) ∷ (codes "L\"", tt) ∷ (codes "#", tt) ∷ []
+-- other spellings of punctuators (ISO/IEC 9899:1990/AMD1:1995)
+unfoldable pub other_punctuators : Table Punct
+other_punctuators =
+    (codes "<:", p.LeftBracket) ∷ (codes ":>", p.RightBracket) ∷ (codes "<%", p.LeftBrace) ∷ (codes "%>", p.RightBrace) ∷ []
 
 -- a letter, then letters and digits (6.1.2)
 unfoldable pub is_word : List ℕ → Bool
@@ -89,20 +97,10 @@ unfoldable pub goes_on_number : ℕ → List ℕ → Bool
 goes_on_number before [] = true
 goes_on_number before (b ∷ rest) = (is_word_byte b || nat_eq b 46 || (is_sign b && is_exponent_mark before)) && goes_on_number b rest
 
-unfoldable pub starts_with_digit : List ℕ → Bool
-starts_with_digit [] = false
-starts_with_digit (b ∷ _) = is_digit b
-
 -- a preprocessing number (6.1.8)
 unfoldable pub is_number : List ℕ → Bool
 is_number [] = false
 is_number (b ∷ rest) = (is_digit b || (nat_eq b 46 && starts_with_digit rest)) && goes_on_number b rest
-
--- 0, or digits of which the first is not 0
-unfoldable pub is_decimal : List ℕ → Bool
-is_decimal [] = false
-is_decimal (b ∷ []) = is_digit b
-is_decimal (b ∷ rest) = is_digit b && not (nat_eq b 48) && list_all is_digit rest
 
 unfoldable pub is_space : List ℕ → Bool
 is_space [] = false
@@ -116,12 +114,17 @@ pub data Sort : Type 0 where
   mark : Mark → Sort
   word : Sort
   integer : Sort
+  floating : Sort
+  character : Sort
+  string : Sort
 
--- what a text stands for
+-- What a text stands for. A marker is white space where it stands first on its line, and spoiled elsewhere.
+-- A text that is refused is spoiled with a cause at a byte of it.
 pub data Spelling : Type 0 where
   space : Spelling
+  marker : Spelling
   token : Sort → Spelling
-  refused : Spelling
+  refused : ℕ → LexCause → Spelling
 
 abbrev pub token_or : {A : Type 0} → (A → Sort) → Option A → Option Spelling → Option Spelling
 token_or sort (Some a) other = Some (token (sort a))
@@ -129,7 +132,7 @@ token_or sort None other = other
 
 abbrev pub mark_or_refused : Option Mark → Spelling
 mark_or_refused (Some a) = token (mark a)
-mark_or_refused None = refused
+mark_or_refused None = refused 0 cause.BadMark
 
 abbrev pub keyword_or : Option Key → Spelling → Spelling
 keyword_or (Some a) other = token (keyword a)
@@ -137,22 +140,74 @@ keyword_or None other = other
 
 -- what a text stands for that is all of one word
 unfoldable pub word_spelling : List ℕ → Spelling
-word_spelling text = keyword_or (find_text text keywords) (if nat_le (length text) MAX_WORD_BYTES then token word else refused)
+word_spelling text = keyword_or (find_text text keywords) (if nat_le (length text) MAX_WORD_BYTES then token word else refused 0 cause.LongWord)
 
-abbrev pub unread_spelling : Option (Unit {0}) → Option Spelling
-unread_spelling (Some _) = Some refused
-unread_spelling None = None
+-- what a preprocessing number stands for
+unfoldable pub number_spelling : List ℕ → Spelling
+number_spelling text = if is_integer text then token integer else if is_floating text then token floating else refused 0 cause.BadNumber
 
--- what a text stands for that is in one of the tables of signs
-unfoldable pub sign_spelling : List ℕ → Option Spelling
-sign_spelling text =
-    token_or punctuator (find_text text punctuators) (token_or mark (find_text text sign_marks) (unread_spelling (find_text text unread)))
+-- what a closed literal stands for
+abbrev pub closed_spelling : ℕ → Bool → Spelling
+closed_spelling quote empty = if nat_eq quote 34 then token string else if empty then refused 0 cause.EmptyChar else token character
 
--- What a whole text stands for. A text of which this is None is no spelling.
-unfoldable pub spelling_of : List ℕ → Option Spelling
-spelling_of text =
+-- a bad escape is spoiled at its backslash, the other causes at the start of the literal
+abbrev pub spoiled_spelling : ℕ → LexCause → Spelling
+spoiled_spelling place cause.BadEscape = refused place cause.BadEscape
+spoiled_spelling place c = refused 0 c
+
+abbrev pub ended_spelling : List ℕ → ℕ → Met → Option Spelling
+ended_spelling text place inside = None
+ended_spelling text place closing =
+    if nat_eq (place + 1) (length text) then Some (closed_spelling (quote_of text) (nat_eq place (contents_start text))) else None
+ended_spelling text place (spoiled c) = Some (spoiled_spelling place c)
+
+-- What a text stands for that begins a literal. Beyond the closing quote there is no spelling.
+unfoldable pub literal_spelling : List ℕ → Option Spelling
+literal_spelling text = ended_spelling text (ending text).place (ending text).found
+
+abbrev pub closed_comment : ℕ → Option ℕ → Option Spelling
+closed_comment rest None = Some (refused 0 cause.OpenComment)
+closed_comment rest (Some n) = if nat_eq n rest then Some space else None
+
+-- What a text stands for that begins a comment. Beyond the first `*/` there is no spelling.
+unfoldable pub comment_spelling : List ℕ → Option Spelling
+comment_spelling text = closed_comment (length text - 2) (through_close (drop 2 text))
+
+-- What a text stands for that begins a directive. A marker has the rest of its line, with the line feed.
+unfoldable pub directive_spelling : List ℕ → Option Spelling
+directive_spelling text =
+    if is_marker_line (take (line_run text) text) then if nat_le (length text) (line_run text + 1) then Some marker else None
+    else Some (refused 0 cause.Directive)
+
+-- a byte that begins nothing
+unfoldable pub stray_spelling : List ℕ → Option Spelling
+stray_spelling [] = None
+stray_spelling (b ∷ []) = Some (refused 0 (if nat_eq b 64 || nat_eq b 96 then cause.BadMark else cause.StrayByte))
+stray_spelling _ = None
+
+abbrev pub others_in : Dialect → Table Punct
+others_in C90 = []
+others_in C95 = other_punctuators
+
+-- what a text stands for that is in one of the tables of signs, or is one byte
+unfoldable pub sign_spelling : Dialect → List ℕ → Option Spelling
+sign_spelling dialect text =
+    token_or punctuator (find_text text punctuators)
+    (token_or mark (find_text text sign_marks) (token_or punctuator (find_text text (others_in dialect)) (stray_spelling text)))
+
+-- what a text stands for that begins no literal, comment or directive
+unfoldable pub plain_spelling : Dialect → List ℕ → Option Spelling
+plain_spelling dialect text =
     if is_word text then Some (word_spelling text)
     else if is_marked_word text then Some (mark_or_refused (find_text text word_marks))
-    else if is_number text then Some (if is_decimal text then token integer else refused)
+    else if is_number text then Some (number_spelling text)
     else if is_space text then Some space
-    else sign_spelling text
+    else sign_spelling dialect text
+
+-- What a whole text stands for. A text of which this is None is no spelling.
+unfoldable pub spelling_of : Dialect → List ℕ → Option Spelling
+spelling_of dialect text =
+    if starts_literal text then literal_spelling text
+    else if starts_comment text then comment_spelling text
+    else if starts_directive dialect text then directive_spelling text
+    else plain_spelling dialect text

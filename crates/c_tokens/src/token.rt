@@ -12,6 +12,9 @@ pub const MAX_SOURCE_BYTES: usize = 4_194_304;
 /// The most bytes of a word.
 pub const MAX_WORD_BYTES: usize = 1_023;
 
+/// The most bytes of a literal.
+pub const MAX_LITERAL_BYTES: usize = 4_095;
+
 /// A keyword (ISO/IEC 9899:1990, 6.1.1).
 #[derive(Clone, Copy, Debug, PartialEq, Eq)]
 pub enum Key {

@@ -1,5 +1,5 @@
 -- What the program keeps of names, as names are added.
-use Rattle.std.proofs.Common.{◌≡◌, refl, ap, sym, subst, ◌∙◌, ℕ, ◌+◌, ◌^◌, ◌<◌, ◌≤◌, Bool, true, false, cond, ◌&&◌, ◌||◌, List, [], ◌∷◌, ◌++◌, length, map, is_some, not, unwrap_or, position, Option, Some, None, Result, Ok, Err, OnOk, OnErr, bytes_eq, decimal, nat_le, nat_lt, arith, if◌then◌else◌}
+use Rattle.std.proofs.Common.{◌≡◌, refl, ap, sym, subst, ◌∙◌, ℕ, ◌^◌, ◌<◌, ◌≤◌, Bool, true, false, cond, ◌&&◌, ◌||◌, List, [], ◌∷◌, ◌++◌, length, map, is_some, not, unwrap_or, position, Option, Some, None, Result, Ok, Err, OnOk, OnErr, bytes_eq, decimal, nat_le, arith}
 use Rattle.std.specs.List.{list_all, list_any}
 use Rattle.std.specs.Map.{lookup}
 use Rattle.std.specs.Str.Parse.{AllDigits}

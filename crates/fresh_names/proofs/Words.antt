@@ -1,8 +1,8 @@
 -- Words and keywords, as the program tests them.
-use Rattle.std.proofs.Common.{◌≡◌, refl, ap, ◌∙◌, sym, ℕ, ◌<◌, ◌≤◌, Bool, true, false, cond, ◌&&◌, ◌||◌, List, [], ◌∷◌, length, drop, get_or, map, is_some, Option, Some, None, bytes_eq, arith}
+use Rattle.std.proofs.Common.{◌≡◌, refl, ap, ◌∙◌, sym, ℕ, ◌<◌, ◌≤◌, Bool, true, false, ◌&&◌, ◌||◌, List, [], ◌∷◌, length, drop, get_or, map, arith}
 use Rattle.std.specs.List.{list_all, list_any}
 use Rattle.c_tokens.specs.Bytes.{is_letter, is_digit, is_word_byte}
-use Rattle.c_tokens.specs.Spelling.{Table, find_text, is_word}
+use Rattle.c_tokens.specs.Spelling.{is_word}
 
 pub word_empty : (text : List ℕ) → length text < 1 → is_word text ≡ false
 unfolding is_word
@@ -13,15 +13,6 @@ pub word_more : (text : List ℕ) → 1 ≤ length text → is_word text ≡ (is
 unfolding is_word
 word_more [] h = absurd (omega arith)
 word_more (b ∷ rest) h = refl
-
-found_or : {A : Type 0} (b : Bool) (a : A) (o : Option A) → is_some (cond b (Some a) o) ≡ (b || is_some o)
-found_or true a o = refl
-found_or false a o = refl
-
-pub find_text-list_any : {A : Type 0} (text : List ℕ) (table : Table A) → is_some (find_text text table) ≡ list_any (bytes_eq text) (map (λ entry. entry.0) table)
-unfolding find_text
-find_text-list_any text [] = refl
-find_text-list_any text (entry ∷ others) = found_or (bytes_eq text entry.0) entry.1 (find_text text others) ∙ ap (λ b. bytes_eq text entry.0 || b) (find_text-list_any text others)
 
 pub list_any-map : {A B : Type 0} (p : B → Bool) (f : A → B) (xs : List A) → list_any p (map f xs) ≡ list_any (λ x. p (f x)) xs
 list_any-map p f [] = refl

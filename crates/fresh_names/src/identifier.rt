@@ -1,48 +1,12 @@
 //! Which texts are names.
 
-ghost use Rattle.std.specs.Prelude.{◌≡◌, is_some, bytes_eq};
-ghost use Rattle.std.specs.List.{list_any, list_all};
+ghost use Rattle.std.specs.Prelude.{◌≡◌, is_some};
+ghost use Rattle.std.specs.List.{list_all};
 ghost use Rattle.c_tokens.specs.Spelling as spelled;
 ghost use Rattle.c_tokens.specs.Bytes as kind;
 ghost use Rattle.fresh_names.specs.Names as named;
 
-use c_tokens::MAX_WORD_BYTES;
-
-/// The keywords (ISO/IEC 9899:1990, 6.1.1).
-static KEYWORDS: [&[u8]; 32] = [
-    b"auto",
-    b"break",
-    b"case",
-    b"char",
-    b"const",
-    b"continue",
-    b"default",
-    b"do",
-    b"double",
-    b"else",
-    b"enum",
-    b"extern",
-    b"float",
-    b"for",
-    b"goto",
-    b"if",
-    b"int",
-    b"long",
-    b"register",
-    b"return",
-    b"short",
-    b"signed",
-    b"sizeof",
-    b"static",
-    b"struct",
-    b"switch",
-    b"typedef",
-    b"union",
-    b"unsigned",
-    b"void",
-    b"volatile",
-    b"while",
-];
+use c_tokens::{MAX_WORD_BYTES, keyword};
 
 /// Whether a text is an identifier that may stand in a source.
 #[tactic(auto, unfolding(crate::specs::Names::is_name))]
@@ -55,13 +19,7 @@ pub fn is_name(text: &[u8]) -> bool
 fn is_keyword(text: &[u8]) -> bool
     ensures { result ≡ is_some (spelled.find_text text.now spelled.keywords) }
 {
-    is_one_of(text, &KEYWORDS)
-}
-
-fn is_one_of(text: &[u8], table: &[&'static [u8]]) -> bool
-    ensures { result ≡ list_any (λ spelled. bytes_eq text.now spelled.now) table.now }
-{
-    table.iter().any(|spelled| text == *spelled)
+    keyword(text).is_some()
 }
 
 #[tactic(auto, using(crate::proofs::Words::word_empty, crate::proofs::Words::word_more))]

@@ -1,7 +1,7 @@
 //! Fresh and given names.
 
 use crate::{NameStop, Names, is_name};
-use c_tokens::Words;
+use c_tokens::{Word, Words};
 use std::test::Fail;
 
 #[test]
@@ -51,6 +51,21 @@ fn a_fresh_name_is_given_once(rt: HostRuntime) -> Result<(), Fail> {
     assert_eq!(rt; names.make(b"do"), Err(NameStop::BadName));
     assert!(rt; names.words().len() < 9);
     assert!(rt; names.make(b"t_1").is_ok());
+    Ok(())
+}
+
+#[test]
+fn constants_are_no_names(rt: HostRuntime) -> Result<(), Fail> {
+    let mut words = Words::new(rt.alloc());
+    words.number(b"a")?;
+    assert!(rt; words.len() < 9);
+    let mut names = Names::of(rt.alloc(), words);
+    assert_eq!(rt; names.constant(b"10")?, Word(1));
+    assert!(rt; names.words().len() < 9);
+    assert_eq!(rt; names.constant(b"\"a\"")?, Word(2));
+    assert!(rt; names.words().len() < 9);
+    assert_eq!(rt; names.constant(b"10")?, Word(1));
+    assert_eq!(rt; names.words().len(), 3);
     Ok(())
 }
 

@@ -28,7 +28,7 @@ impl Model for MacroTable {
     ghost use Rattle.std.specs.Prelude.{List, ◌<◌, ◌^◌, length};
     ghost use Rattle.macro_table.specs.Macros.{Macro};
     ghost use Rattle.macro_table.specs.MacroRows.{macros_in};
-    ghost use Rattle.pattern_language.specs.contracts.element.Element as element;
+    ghost use Rattle.c_tokens.specs.contracts.element.Element as element;
     ghost use Rattle.std.specs.Coded.{codes};
 
     ghost Value = { List Macro };

@@ -3,9 +3,9 @@
 ghost use Rattle.std.specs.Prelude.{◌≡◌, IfOk};
 
 use crate::MacroTable;
-use c_tokens::{Base, Kind, List, MacroNo, MetaType, Span, Word};
+use c_tokens::{Base, Element, Kind, List, MacroNo, MetaType, Span, Word};
 use meta_types::AddStop;
-use pattern_language::{Element, Fit, check, is_plain};
+use pattern_language::{Fit, check, is_plain};
 use std::alloc::Global;
 use std::test::Fail;
 

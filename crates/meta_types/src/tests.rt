@@ -232,6 +232,9 @@ fn functions_keep_their_numbers(rt: HostRuntime) -> Result<(), Fail> {
     );
     assert_eq!(rt; functions.len(), 2);
     assert_eq!(rt; functions.by_word(Word(7)), Some(first));
+    assert!(rt; (first.0 as usize) < functions.len());
+    assert_eq!(rt; functions.params(first), [int, text].as_slice());
+    assert_eq!(rt; functions.result(first), text);
     assert_eq!(rt; functions.by_word(Word(2)), Some(second));
     assert_eq!(rt; functions.by_word(Word(1)), None);
     Ok(())

@@ -1,5 +1,5 @@
 -- The line and the column past the end of a text are those of its end.
-use Rattle.std.proofs.Common.{◌≡◌, ap, sym, ◌∙◌, ℕ, ◌+◌, List, length, take, min, reverse, not, nat_eq}
+use Rattle.std.proofs.Common.{◌≡◌, ap, ◌∙◌, ℕ, ◌+◌, List, length, min, reverse, not, nat_eq}
 use Rattle.std.specs.Prelude.{count_by, take_while}
 use Rattle.std.proofs.lemmas.List.{take_min}
 use Rattle.c_tokens.specs.Places.{line_at, column_at}

@@ -30,7 +30,7 @@ one_turn w d e (t ∷ ts) (u ∷ us) i j l S T p q =
     cc
 
 -- a text is a list of tokens in one way
-pub same_tokens : (o : Result (List Token) ℕ) (v w : List Token) → o ≡ Ok v → o ≡ Ok w → v ≡ w
+pub same_tokens : {E : Type 0} (o : Result (List Token) E) (v w : List Token) → o ≡ Ok v → o ≡ Ok w → v ≡ w
 same_tokens o v w e h = cc
 
 pub one_plain : (names : List (List ℕ)) (text : List ℕ) (ts us : List Declaration) → IsPlain names text ts → IsPlain names text us → us ≡ ts

@@ -2,6 +2,7 @@
 use Rattle.std.proofs.Common.{◌≡◌, refl, ap, sym, subst, ◌∙◌, IfOk, ℕ, List, [], None, Result, Ok, Err, bytes_eq}
 use Rattle.std.specs.List.{AllPass, IsDistinct}
 use Rattle.c_tokens.specs.declared.token.Token.{Token}
+use Rattle.c_tokens.specs.declared.lexical.Dialect.TheVariants.{C90}
 use Rattle.c_tokens.specs.Tokens.{tokens_of}
 use Rattle.c_trees.specs.Pure.{is_pure_declaration}
 use Rattle.c_trees.specs.Named.{is_named_declaration}
@@ -19,18 +20,12 @@ use Rattle.expander.specs.Meaning.{IsSource, IsStop, IsTranslation, meaning}
 use Rattle.c_tokens.specs.declared.memory.Memory.{Memory as Gone}
 use Rattle.ms2_top.specs.declared.source.Outcome.{Outcome}
 use Rattle.ms2_top.specs.declared.source.Outcome.TheVariants.{Stopped}
-use Rattle.ms2_top.specs.Outcomes.{IsOutcome, texts_of, IsPlain, IsTextOf, HasNoReading, IsStopOf, IsNoToken}
+use Rattle.ms2_top.specs.Outcomes.{IsOutcome, texts_of, IsPlain, IsTextOf, HasNoReading, IsStopOf}
 use Rattle.ms2_top.proofs.Meanings.{none_sound, pure_meaning, named_meaning}
 use Rattle.ms2_top.proofs.Plain.{one_plain, same_tokens}
 use Rattle.ms2_top.proofs.Refusals.{first_dead_none, too_deep_none}
 
-differ : (o : Result (List Token) ℕ) (w : List Token) (at : ℕ) → o ≡ Ok w → o ≡ Err at → ⊥
-differ o w at e h = absurd cc
-
-pub bad : (bytes : List ℕ) (at : ℕ) → tokens_of (texts_of bytes) bytes ≡ Err at → IsNoToken bytes at
-bad bytes at e = record { bad = e; none = λ items S. differ _ S.tokens at S.lexed e }
-
-module _ (bytes : List ℕ) (w : List Token) (lexed : tokens_of (texts_of bytes) bytes ≡ Ok w) where
+module _ (bytes : List ℕ) (w : List Token) (lexed : tokens_of C90 (texts_of bytes) bytes ≡ Ok w) where
   pub known : AreKnown (texts_of bytes) w
   known = known_tokens [] bytes w lexed
 
@@ -63,18 +58,18 @@ module _ (bytes : List ℕ) (w : List Token) (lexed : tokens_of (texts_of bytes)
 
 -- ---- over a table that is that of the source's texts
 
-module _ (bytes : List ℕ) (names : List (List ℕ)) (table : names ≡ texts_of bytes) (w : List Token) (lexed : tokens_of names bytes ≡ Ok w) where
+module _ (bytes : List ℕ) (names : List (List ℕ)) (table : names ≡ texts_of bytes) (w : List Token) (lexed : tokens_of C90 names bytes ≡ Ok w) where
   pub known_there : AreKnown names w
-  known_there = subst (λ n. tokens_of n bytes ≡ Ok w → AreKnown n w) (sym table) (known bytes w) lexed
+  known_there = subst (λ n. tokens_of C90 n bytes ≡ Ok w → AreKnown n w) (sym table) (known bytes w) lexed
 
   abbrev Texts : List Declaration → List ℕ → List (List ℕ) → Type 0
-  Texts written text n = tokens_of n bytes ≡ Ok w → IsDistinct bytes_eq n → IsTranslation n w written → text ≡ layout n written → IsReadBack n written text → IsTextOf bytes text
+  Texts written text n = tokens_of C90 n bytes ≡ Ok w → IsDistinct bytes_eq n → IsTranslation n w written → text ≡ layout n written → IsReadBack n written text → IsTextOf bytes text
 
   pub is_text_there : (written : List Declaration) (text : List ℕ) → Texts written text names
   is_text_there written text = subst (Texts written text) (sym table) (λ l d t e r. is_text bytes w l written text d t e r)
 
   abbrev Stops : Stop → List (List ℕ) → Type 0
-  Stops stop n = tokens_of n bytes ≡ Ok w → AreDistinct n → (stop ≡ Memory → ⊥) → IsStop n w stop → IsStopOf bytes stop
+  Stops stop n = tokens_of C90 n bytes ≡ Ok w → AreDistinct n → (stop ≡ Memory → ⊥) → IsStop n w stop → IsStopOf bytes stop
 
   pub is_stop_there : (stop : Stop) → Stops stop names
   is_stop_there stop = subst (Stops stop) (sym table) (λ l d o s. is_stop bytes w l stop d o s)

@@ -19,10 +19,10 @@ status_of ending.Write = Write
 status_of ending.Memory = Memory
 status_of ending.Limit = Limit
 
--- The bytes are refused at this byte for this reason: no token begins there, or the token there is the first that no
+-- The bytes are refused at this byte for this reason: they are spoiled there, or the token there is the first that no
 -- item has, or one that each such item has too deep.
 abbrev pub IsRefusedAt : List ℕ → ℕ → Reason → Type 0
-IsRefusedAt bytes at reason.Lex = IsNoToken bytes at
+IsRefusedAt bytes at (reason.Lex cause) = IsNoToken bytes at cause
 IsRefusedAt bytes at reason.Syntax = (end : ℕ) × IsStopOf bytes (stop.Syntax (record { start = at; end = end }))
 IsRefusedAt bytes at reason.TooDeep = (end : ℕ) × IsStopOf bytes (stop.TooDeep (record { start = at; end = end }))
 

@@ -1,6 +1,8 @@
 -- The lines on standard error.
 use Rattle.std.specs.Prelude.{◌≡◌, ℕ, ◌⊎◌, List, [], ◌++◌, take, Option, IfSome, IsSomeAnd, Some, codes, decimal}
 use Rattle.io_edge.specs.Put.{Appends}
+use Rattle.c_tokens.specs.declared.lexical.LexCause.{LexCause}
+use Rattle.c_tokens.specs.declared.lexical.LexCause.TheVariants as cause
 use Rattle.c_tokens.specs.declared.span.Place.{Place}
 use Rattle.ms2_top.specs.declared.ending.Ending.{Ending}
 use Rattle.ms2_top.specs.declared.ending.Ending.TheVariants as ending
@@ -28,8 +30,20 @@ memory_line = codes "ms2: no memory\n"
 abbrev pub limit_line : List ℕ → List ℕ
 limit_line name = name ++ codes ": too large\n"
 
+abbrev pub cause_text : LexCause → List ℕ
+cause_text cause.StrayByte = codes "lex StrayByte"
+cause_text cause.OpenComment = codes "lex OpenComment"
+cause_text cause.OpenLiteral = codes "lex OpenLiteral"
+cause_text cause.BadEscape = codes "lex BadEscape"
+cause_text cause.EmptyChar = codes "lex EmptyChar"
+cause_text cause.BadNumber = codes "lex BadNumber"
+cause_text cause.LongWord = codes "lex LongWord"
+cause_text cause.LongLiteral = codes "lex LongLiteral"
+cause_text cause.Directive = codes "lex Directive"
+cause_text cause.BadMark = codes "lex BadMark"
+
 abbrev pub reason_text : Reason → List ℕ
-reason_text Lex = codes "lex"
+reason_text (Lex cause) = cause_text cause
 reason_text Syntax = codes "syntax"
 reason_text TooDeep = codes "too deep"
 

@@ -1,9 +1,11 @@
 -- What comes of the bytes of a source.
-use Rattle.std.specs.Prelude.{◌≡◌, ℕ, List, [], None, Ok, Err}
+use Rattle.std.specs.Prelude.{◌≡◌, ℕ, List, [], None, Ok}
 use Rattle.std.specs.List.{AllPass}
 use Rattle.c_tokens.specs.declared.token.Token.{Token}
 use Rattle.c_tokens.specs.declared.token.Shape.TheVariants.{End}
-use Rattle.c_tokens.specs.Tokens.{tokens_of, gained}
+use Rattle.c_tokens.specs.declared.lexical.Dialect.TheVariants.{C90}
+use Rattle.c_tokens.specs.declared.lexical.LexCause.{LexCause}
+use Rattle.c_tokens.specs.Tokens.{tokens_of, gained, bad}
 use Rattle.c_trees.specs.Pure.{is_pure_declaration}
 use Rattle.c_trees.specs.declared.tree.Declaration.{Declaration}
 use Rattle.c_trees.specs.declared.tree.Item.{Item}
@@ -15,9 +17,9 @@ use Rattle.expander.specs.Meaning.{IsSource, IsStop, meaning}
 use Rattle.ms2_top.specs.declared.source.Outcome.{Outcome}
 use Rattle.ms2_top.specs.declared.source.Outcome.TheVariants.{Text, Lex, Stopped}
 
--- the texts of a source's words and constants, in the order of first sight
+-- the texts of a source's words, constants and literals, in the order of first sight
 abbrev pub texts_of : List ℕ → List (List ℕ)
-texts_of bytes = gained [] bytes
+texts_of bytes = gained C90 [] bytes
 
 -- ---- plain C
 
@@ -25,7 +27,7 @@ texts_of bytes = gained [] bytes
 -- number is that of its text among `names`.
 pub record IsPlain (names : List (List ℕ)) (text : List ℕ) (written : List Declaration) : Type 0 where
   pub tokens : List Token
-  pub lexed : tokens_of names text ≡ Ok tokens
+  pub lexed : tokens_of C90 names text ≡ Ok tokens
   pub depth : ℕ
   pub last : ℕ
   pub spelled : SpellInTurn depth tokens written 0 last
@@ -36,7 +38,7 @@ pub record IsPlain (names : List (List ℕ)) (text : List ℕ) (written : List D
 -- the bytes are a source with these items
 pub record IsSourceOf (bytes : List ℕ) (items : List Item) : Type 0 where
   pub tokens : List Token
-  pub lexed : tokens_of (texts_of bytes) bytes ≡ Ok tokens
+  pub lexed : tokens_of C90 (texts_of bytes) bytes ≡ Ok tokens
   pub read : IsSource (texts_of bytes) tokens items
 
 -- The text is that of the declarations that the source's items stand for: free of calls and placeholders,
@@ -56,16 +58,16 @@ HasNoReading bytes = (items : List Item) → IsSourceOf bytes items → ⊥
 -- the tokens are not all items
 pub record IsStopOf (bytes : List ℕ) (stop : Stop) : Type 0 where
   pub tokens : List Token
-  pub lexed : tokens_of (texts_of bytes) bytes ≡ Ok tokens
+  pub lexed : tokens_of C90 (texts_of bytes) bytes ≡ Ok tokens
   pub stopped : IsStop (texts_of bytes) tokens stop
   pub none : HasNoReading bytes
 
--- a place is that of what is no token
-pub record IsNoToken (bytes : List ℕ) (at : ℕ) : Type 0 where
-  pub bad : tokens_of (texts_of bytes) bytes ≡ Err at
+-- the bytes have no tokens: they are spoiled at a place, for a cause
+pub record IsNoToken (bytes : List ℕ) (at : ℕ) (cause : LexCause) : Type 0 where
+  pub spoiled : tokens_of C90 (texts_of bytes) bytes ≡ bad at cause
   pub none : HasNoReading bytes
 
 abbrev pub IsOutcome : List ℕ → Outcome → Type 0
 IsOutcome bytes (Text text) = IsTextOf bytes text
-IsOutcome bytes (Lex at) = IsNoToken bytes at
+IsOutcome bytes (Lex at cause) = IsNoToken bytes at cause
 IsOutcome bytes (Stopped stop) = IsStopOf bytes stop

@@ -4,7 +4,7 @@ ghost use Rattle.std.specs.Prelude.{◌≡◌, ◌≢◌};
 ghost use Rattle.ms2_top.specs.Endings.{status_of};
 
 use crate::status::Status;
-use c_tokens::Place;
+use c_tokens::{LexCause, Place};
 
 /// How a run over a file ended.
 #[derive(Clone, Copy, Debug, PartialEq, Eq)]
@@ -27,8 +27,8 @@ pub struct Refusal {
 /// Why a source is refused.
 #[derive(Clone, Copy, Debug, PartialEq, Eq)]
 pub enum Reason {
-    /// no token begins there
-    Lex,
+    /// no tokens: they are spoiled there
+    Lex(LexCause),
     /// no item has that token there
     Syntax,
     /// each item that has that token there is too deep

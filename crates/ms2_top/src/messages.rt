@@ -4,9 +4,10 @@ ghost use Rattle.std.specs.Prelude.{◌≡◌, OnOk, OnErr};
 ghost use Rattle.std.specs.List.{flat_map};
 ghost use Rattle.io_edge.specs.Faults.{Rose};
 ghost use Rattle.io_edge.specs.Put.{Appends};
-ghost use Rattle.ms2_top.specs.Messages.{HasFront, message, reason_text, refusal_line, refusal_text, usage_line};
+ghost use Rattle.ms2_top.specs.Messages.{HasFront, cause_text, message, reason_text, refusal_line, refusal_text, usage_line};
 
 use crate::ending::{Ending, Reason, Refusal};
+use c_tokens::LexCause;
 use io_edge::{Sink, WriteFault, put_all};
 use itoa::Buffer;
 
@@ -73,9 +74,27 @@ fn reason_text(reason: Reason) -> &'static str
     ensures { result.now ≡ reason_text reason }
 {
     match reason {
-        Reason::Lex => "lex",
+        Reason::Lex(cause) => cause_text(cause),
         Reason::Syntax => "syntax",
         Reason::TooDeep => "too deep",
+    }
+}
+
+/// What a line says of a cause.
+fn cause_text(cause: LexCause) -> &'static str
+    ensures { result.now ≡ cause_text cause }
+{
+    match cause {
+        LexCause::StrayByte => "lex StrayByte",
+        LexCause::OpenComment => "lex OpenComment",
+        LexCause::OpenLiteral => "lex OpenLiteral",
+        LexCause::BadEscape => "lex BadEscape",
+        LexCause::EmptyChar => "lex EmptyChar",
+        LexCause::BadNumber => "lex BadNumber",
+        LexCause::LongWord => "lex LongWord",
+        LexCause::LongLiteral => "lex LongLiteral",
+        LexCause::Directive => "lex Directive",
+        LexCause::BadMark => "lex BadMark",
     }
 }
 

@@ -109,7 +109,9 @@ fn write_text<O: Sink>(alloc: Global, bytes: &[u8], out: &mut O) -> Ending
             Ok(()) => Ending::Done,
             Err(WriteFault) => Ending::Write,
         },
-        Ok(Outcome::Lex { at }) => Ending::Refused(refusal_at(bytes, at, Reason::Lex)),
+        Ok(Outcome::Lex { at, cause }) => {
+            Ending::Refused(refusal_at(bytes, at, Reason::Lex(cause)))
+        }
         Ok(Outcome::Stopped(stop)) => stopped(bytes, stop),
         Err(Memory) => Ending::Memory,
     }

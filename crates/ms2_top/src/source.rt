@@ -1,20 +1,21 @@
 //! What comes of a source.
 
 ghost use Rattle.std.specs.Prelude.{◌≡◌, ◌≢◌, ◌≤◌, length, IfOk, Ok};
+ghost use Rattle.c_tokens.specs.declared.lexical.Dialect.TheVariants.{C90};
 ghost use Rattle.c_tokens.specs.Tokens.{tokens_of};
 ghost use Rattle.ms2_top.specs.Outcomes.{IsOutcome, texts_of};
 
 use c_lexer::{LexStop, lex};
 use c_printer::print;
-use c_tokens::{Bytes, MAX_SOURCE_BYTES, Memory, Token, Words};
+use c_tokens::{Bytes, Dialect, LexCause, MAX_SOURCE_BYTES, Memory, Token, Words};
 use expander::{Stop, feed};
 use std::alloc::Global;
 
-/// What comes of a source: its text, the place in bytes of what is no token, or why it has no reading.
+/// What comes of a source: its text, the byte at which its tokens are spoiled, with the cause, or why it has no reading.
 #[derive(Debug, Drop)]
 pub enum Outcome {
     Text(Bytes),
-    Lex { at: usize },
+    Lex { at: usize, cause: LexCause },
     Stopped(Stop),
 }
 
@@ -24,9 +25,9 @@ pub fn outcome_of(alloc: Global, bytes: &[u8]) -> Result<Outcome, Memory>
     ensures { IfOk result (λ found. IsOutcome bytes.now found) }
 {
     let mut words = Words::new(alloc);
-    match lex(alloc, bytes, &mut words) {
+    match lex(alloc, bytes, Dialect::C90, &mut words) {
         Ok(tokens) => translate(alloc, bytes, &tokens, &words),
-        Err(LexStop::Bad { at }) => Ok(Outcome::Lex { at }),
+        Err(LexStop::Bad { at, cause }) => Ok(Outcome::Lex { at, cause }),
         Err(LexStop::Memory) => Err(Memory),
     }
 }
@@ -39,7 +40,7 @@ fn translate(
     words: &Words,
 ) -> Result<Outcome, Memory>
     requires table { words.now ≡ texts_of bytes.now }
-    requires lexed { tokens_of words.now bytes.now ≡ Ok tokens.now }
+    requires lexed { tokens_of C90 words.now bytes.now ≡ Ok tokens.now }
     ensures { IfOk result (λ found. IsOutcome bytes.now found) }
 {
     // The table says that its texts are distinct.

@@ -8,10 +8,15 @@ use std::alloc::Global;
 use std::test::Fail;
 
 /// Sources, each with the text that is written for it.
-static WRITTEN: [(&str, &str); 11] = [
+static WRITTEN: [(&str, &str); 13] = [
     ("int x = 1;", "int x = 1;\n"),
     ("", ""),
     (" \t\r\n", ""),
+    ("int x = 0xF+1;", "int x = 0xF + 1;\n"),
+    (
+        "# 1 \"a.c\"\nint x /* \x7f */ = 1;\n#line 7",
+        "int x = 1;\n",
+    ),
     ("int a=b;int c=0 ;", "int a = b;\nint c = 0;\n"),
     ("int a = ((b)) + (c + d);", "int a = b + (c + d);\n"),
     (
@@ -71,13 +76,15 @@ static WRONG: [(&str, u32); 10] = [
 ];
 
 /// Sources that are refused, each with its line.
-static LINES: [(&str, &str); 7] = [
+static LINES: [(&str, &str); 9] = [
     ("int a = 1; ?", "a.c:1:12: syntax\n"),
     ("int a = 1", "a.c:1:10: syntax\n"),
     ("int a = 1;\r\n\nint b = 2\n;;", "a.c:4:2: syntax\n"),
-    ("int x; /* open", "a.c:1:8: lex\n"),
-    ("#pragma pack(1)", "a.c:1:1: lex\n"),
-    ("int a = 1;\n \x7f", "a.c:2:2: lex\n"),
+    ("int x; /* open", "a.c:1:8: lex OpenComment\n"),
+    ("#pragma pack(1)", "a.c:1:1: lex Directive\n"),
+    ("int x = 0xE+1;", "a.c:1:9: lex BadNumber\n"),
+    ("int x = \"a\\q\";", "a.c:1:11: lex BadEscape\n"),
+    ("int a = 1;\n \x7f", "a.c:2:2: lex StrayByte\n"),
     (
         "@syntax @exp one @{ ( $$exp::x ) @} { return `(0); }\n@syntax @exp one @{ ( $$exp::x ) @} { return `(0); }",
         "a.c:2:1: syntax\n",
@@ -117,6 +124,18 @@ fn answer_over<E: Sink>(
         owned.push(String::from_str(alloc, word)?)?;
     }
     Ok(run(alloc, &owned, shelf, out, err))
+}
+
+/// Runs over one file `a.c` that holds this.
+fn over_file(
+    alloc: Global,
+    source: &[u8],
+    out: &mut MemorySink,
+    err: &mut MemorySink,
+) -> Result<Status, Fail> {
+    let mut shelf = MemoryShelf::new(alloc, 7, List::from_vec(Vec::new(alloc)));
+    shelf.add_file("a.c", source)?;
+    answer_over(alloc, &["a.c"], &mut shelf, out, err)
 }
 
 /// A sink that takes four bytes at a time and fails at its sends of these numbers.
@@ -219,11 +238,13 @@ fn answers_for_sizes(rt: HostRuntime) -> Result<(), Fail> {
 fn answers_for_faults(rt: HostRuntime) -> Result<(), Fail> {
     let alloc = rt.alloc();
     let mut out = sink(alloc, &[3])?;
+    let mut err = sink(alloc, &[])?;
     assert_eq!(rt;
-        status_of(alloc, &["a.c"], b"int x = 1;", &mut out)?,
+        over_file(alloc, b"int x = 1;", &mut out, &mut err)?,
         Status::Write
     );
     assert_eq!(rt; out.held(), b"int x = ".as_slice());
+    assert_eq!(rt; err.held(), b"ms2: cannot write\n".as_slice());
 
     // The second call of the shelf, which fails, is the first read.
     let mut shelf = MemoryShelf::new(alloc, 7, List::from_vec([2].to_vec(alloc)?));
@@ -279,8 +300,17 @@ fn says_what_was_not_read(rt: HostRuntime) -> Result<(), Fail> {
     let alloc = rt.alloc();
     let usage = status_with_line(alloc, &[], b"", "usage: ms2 FILE\n")?;
     assert_eq!(rt; usage, Some(Status::Usage));
-    let missing = status_with_line(alloc, &["none.c"], b"", "ms2: cannot read none.c\n")?;
-    assert_eq!(rt; missing, Some(Status::Read));
+    let mut shelf = MemoryShelf::new(alloc, 7, List::from_vec(Vec::new(alloc)));
+    let mut err = sink(alloc, &[])?;
+    let missing = answer_over(
+        alloc,
+        &["a.c"],
+        &mut shelf,
+        &mut sink(alloc, &[])?,
+        &mut err,
+    )?;
+    assert_eq!(rt; missing, Status::Read);
+    assert_eq!(rt; err.held(), b"ms2: cannot read a.c\n".as_slice());
     Ok(())
 }
 

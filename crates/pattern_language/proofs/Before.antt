@@ -1,7 +1,7 @@
 -- The binders before a place, list by list.
 use Rattle.std.proofs.Common.{◌≡◌, ap, sym, ◌∙◌, List, [], ◌++◌, Bor}
 use Rattle.c_tokens.specs.declared.token.Word.{Word}
-use Rattle.pattern_language.specs.declared.element.Element.{Element}
+use Rattle.c_tokens.specs.declared.element.Element.{Element}
 use Rattle.pattern_language.specs.declared.earlier.Earlier.{Earlier, fold-roll-Earlier}
 use Rattle.pattern_language.specs.declared.earlier.Earlier.TheOpen.{Earlier-F}
 use Rattle.pattern_language.specs.declared.earlier.Earlier.TheVariants as v

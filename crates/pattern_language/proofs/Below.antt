@@ -8,7 +8,7 @@ use Rattle.c_tokens.specs.declared.token.Mark.{Mark}
 use Rattle.c_tokens.specs.declared.token.Mark.TheVariants as m
 use Rattle.c_tokens.specs.declared.token.Shape.{Shape}
 use Rattle.c_tokens.specs.declared.token.Shape.TheVariants as s
-use Rattle.pattern_language.specs.ClassOf.{class_of}
+use Rattle.c_tokens.specs.ClassOf.{class_of}
 use Rattle.pattern_language.specs.Classes.{class_number, key_number, punct_number, mark_number}
 
 few_keys : (key : Key) → key_number key < 32

@@ -5,10 +5,10 @@ use Rattle.c_tokens.specs.declared.token.Token.{Token}
 use Rattle.c_tokens.specs.declared.token.Word.{Word}
 use Rattle.c_tokens.specs.declared.kind.Kind.{Kind}
 use Rattle.c_tokens.specs.declared.span.Span.{Span}
-use Rattle.pattern_language.specs.declared.element.Element.{Element, fold-Element, fold-roll-Element, roll-Element, out-Element, roll-out-Element}
-use Rattle.pattern_language.specs.declared.element.Element.TheOpen.{Element-F}
-use Rattle.pattern_language.specs.declared.element.Element.TheVariants as v
-use Rattle.pattern_language.specs.declared.element.Element.TheVariants.{rolls-Literal, rolls-Bind, rolls-Repeat, rolls-Maybe}
+use Rattle.c_tokens.specs.declared.element.Element.{Element, fold-Element, fold-roll-Element, roll-Element, out-Element, roll-out-Element}
+use Rattle.c_tokens.specs.declared.element.Element.TheOpen.{Element-F}
+use Rattle.c_tokens.specs.declared.element.Element.TheVariants as v
+use Rattle.c_tokens.specs.declared.element.Element.TheVariants.{rolls-Literal, rolls-Bind, rolls-Repeat, rolls-Maybe}
 use Rattle.pattern_language.specs.Patterns.{Pattern, Done, Literal, Bind, Repeat, Maybe, before, element, after_all, pattern_of, is_among}
 use Rattle.pattern_language.specs.Rules.{is_done}
 use Rattle.pattern_language.proofs.SetLemmas.{or_assoc}

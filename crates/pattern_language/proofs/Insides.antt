@@ -1,7 +1,7 @@
 -- Where the bodies of repetitions and options stand.
 use Rattle.std.proofs.Common.{◌≡◌}
 use Rattle.std.proofs.Math.Path.{fun_ext}
-use Rattle.pattern_language.specs.declared.class.Class.{Class}
+use Rattle.c_tokens.specs.declared.class.Class.{Class}
 use Rattle.pattern_language.specs.Classes.{Classes}
 
 -- Two sets that hold the same classes are one.

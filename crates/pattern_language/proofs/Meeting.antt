@@ -1,6 +1,6 @@
 -- Sets with a class in common.
 use Rattle.std.proofs.Common.{◌≡◌, sym, ◌∙◌}
-use Rattle.pattern_language.specs.declared.class.Class.{Class}
+use Rattle.c_tokens.specs.declared.class.Class.{Class}
 use Rattle.pattern_language.specs.Classes.{Classes, Meets}
 
 pub meets_alike : (a b f g : Classes) → ((c : Class) → a c ≡ f c) → ((c : Class) → b c ≡ g c) → Meets a b → Meets f g

@@ -5,8 +5,8 @@ use Rattle.c_tokens.specs.declared.token.Key.TheVariants as k
 use Rattle.c_tokens.specs.declared.token.Punct.TheVariants as p
 use Rattle.c_tokens.specs.declared.token.Mark.TheVariants as m
 use Rattle.c_tokens.specs.declared.kind.Kind.TheVariants as t
-use Rattle.pattern_language.specs.declared.class.Class.{Class}
-use Rattle.pattern_language.specs.declared.class.Class.TheVariants as c
+use Rattle.c_tokens.specs.declared.class.Class.{Class}
+use Rattle.c_tokens.specs.declared.class.Class.TheVariants as c
 use Rattle.std.proofs.lemmas.Bool.Decides.{eqb_tells}
 use Rattle.pattern_language.specs.Classes.{class_number}
 

@@ -5,9 +5,9 @@ use Rattle.std.proofs.lemmas.List.{take_more}
 use Rattle.std.proofs.lemmas.List.Elements.{All-append}
 use Rattle.c_tokens.specs.declared.token.Word.{Word}
 use Rattle.c_tokens.specs.declared.kind.MetaType.{MetaType}
-use Rattle.pattern_language.specs.declared.element.Element.{Element, roll-Element, out-Element, roll-out-Element}
-use Rattle.pattern_language.specs.declared.element.Element.TheOpen.{Element-F}
-use Rattle.pattern_language.specs.declared.element.Element.TheVariants.{rolls-Literal, rolls-Bind, rolls-Repeat, rolls-Maybe}
+use Rattle.c_tokens.specs.declared.element.Element.{Element, roll-Element, out-Element, roll-out-Element}
+use Rattle.c_tokens.specs.declared.element.Element.TheOpen.{Element-F}
+use Rattle.c_tokens.specs.declared.element.Element.TheVariants.{rolls-Literal, rolls-Bind, rolls-Repeat, rolls-Maybe}
 use Rattle.pattern_language.specs.Patterns.{Pattern, Done, Literal, Bind, Repeat, Maybe, element, pattern_of, names}
 use Rattle.pattern_language.specs.Rules.{Place, Site, after, sites, in_repetition, in_option, Keeps, IsLowest, IsFirstBreak, IsJudged}
 use Rattle.pattern_language.specs.Rules.{Passes, Fails}

@@ -2,7 +2,7 @@
 use Rattle.std.proofs.Common.{◌≡◌, ap, ◌∙◌, subst, ℕ, List, [], true}
 use Rattle.c_tokens.specs.declared.token.Word.{Word}
 use Rattle.c_tokens.specs.declared.kind.MetaType.{MetaType}
-use Rattle.pattern_language.specs.declared.element.Element.{Element}
+use Rattle.c_tokens.specs.declared.element.Element.{Element}
 use Rattle.pattern_language.specs.Classes.{Classes, nothing}
 use Rattle.pattern_language.specs.Rules.{Place, Site, sites, start, Fails}
 use Rattle.pattern_language.specs.Patterns.{pattern_of}

@@ -5,8 +5,8 @@ use Rattle.c_tokens.specs.declared.token.Word.{Word}
 use Rattle.c_tokens.specs.declared.span.Span.{Span}
 use Rattle.c_tokens.specs.declared.kind.Kind.{Kind}
 use Rattle.c_tokens.specs.declared.kind.MetaType.{MetaType}
-use Rattle.pattern_language.specs.declared.element.Element.{Element}
-use Rattle.pattern_language.specs.declared.element.Element.TheVariants as v
+use Rattle.c_tokens.specs.declared.element.Element.{Element}
+use Rattle.c_tokens.specs.declared.element.Element.TheVariants as v
 use Rattle.pattern_language.specs.Patterns.{Pattern, element, pattern_of}
 use Rattle.pattern_language.specs.Rules.{Place, Site, sites, in_repetition, in_option, Keeps, IsJudged, P1}
 use Rattle.pattern_language.specs.Rules.{Passes, Fails}

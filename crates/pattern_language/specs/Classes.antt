@@ -8,8 +8,8 @@ use Rattle.c_tokens.specs.declared.token.Mark.{Mark}
 use Rattle.c_tokens.specs.declared.token.Mark.TheVariants as m
 use Rattle.c_tokens.specs.declared.kind.Kind.{Kind}
 use Rattle.c_tokens.specs.declared.kind.Kind.TheVariants as t
-use Rattle.pattern_language.specs.declared.class.Class.{Class}
-use Rattle.pattern_language.specs.declared.class.Class.TheVariants as c
+use Rattle.c_tokens.specs.declared.class.Class.{Class}
+use Rattle.c_tokens.specs.declared.class.Class.TheVariants as c
 
 abbrev pub key_number : Key → ℕ
 key_number k.Auto = 0

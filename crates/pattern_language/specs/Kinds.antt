@@ -4,8 +4,8 @@ use Rattle.c_tokens.specs.declared.token.Key.TheVariants as k
 use Rattle.c_tokens.specs.declared.token.Punct.TheVariants as p
 use Rattle.c_tokens.specs.declared.kind.Kind.{Kind}
 use Rattle.c_tokens.specs.declared.kind.Kind.TheVariants as t
-use Rattle.pattern_language.specs.declared.class.Class.{Class}
-use Rattle.pattern_language.specs.declared.class.Class.TheVariants as c
+use Rattle.c_tokens.specs.declared.class.Class.{Class}
+use Rattle.c_tokens.specs.declared.class.Class.TheVariants as c
 use Rattle.pattern_language.specs.Classes.{Classes, one_of}
 
 -- the type specifiers that are keywords (ISO/IEC 9899:1990, 6.5.2)

@@ -1,4 +1,3 @@
-pub mod ClassOf
 pub mod Classes
 pub mod Sets
 pub mod Kinds

@@ -5,10 +5,10 @@ use Rattle.c_tokens.specs.declared.token.Shape.{Shape}
 use Rattle.c_tokens.specs.declared.token.Shape.TheVariants as s
 use Rattle.c_tokens.specs.declared.token.Word.{Word}
 use Rattle.c_tokens.specs.declared.kind.Kind.{Kind}
-use Rattle.pattern_language.specs.declared.class.Class.{Class}
-use Rattle.pattern_language.specs.declared.element.Element.{Element, fold-Element}
-use Rattle.pattern_language.specs.declared.element.Element.TheOpen.{Element-F}
-use Rattle.pattern_language.specs.ClassOf.{class_of}
+use Rattle.c_tokens.specs.declared.class.Class.{Class}
+use Rattle.c_tokens.specs.declared.element.Element.{Element, fold-Element}
+use Rattle.c_tokens.specs.declared.element.Element.TheOpen.{Element-F}
+use Rattle.c_tokens.specs.ClassOf.{class_of}
 use Rattle.pattern_language.specs.Classes.{Classes, only}
 use Rattle.pattern_language.specs.Kinds.{first, cont}
 

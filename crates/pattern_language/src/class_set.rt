@@ -1,11 +1,11 @@
 //! Sets of classes of tokens.
 
 ghost use Rattle.std.specs.Prelude.{◌≡◌, ◌<◌, ◌↔◌, IsTrue};
-ghost use Rattle.pattern_language.specs.declared.class.Class.{Class};
+ghost use Rattle.c_tokens.specs.declared.class.Class.{Class};
 ghost use Rattle.pattern_language.specs.Classes as classes;
 ghost use Rattle.pattern_language.specs.Sets as sets;
 
-use crate::class::Class;
+use c_tokens::Class;
 
 /// A set of classes. A placeholder with lists is in none.
 #[derive(Clone, Copy, Debug)]

@@ -4,9 +4,8 @@ ghost use Rattle.std.specs.Prelude.{◌≡◌};
 ghost use Rattle.pattern_language.specs.Earlier.{names_before};
 ghost use Rattle.pattern_language.specs.Patterns.{is_among};
 
-use crate::element::Element;
 use crate::lists::has_name;
-use c_tokens::Word;
+use c_tokens::{Element, Word};
 
 /// The elements before a place, list by list from the inside to the outside.
 #[derive(Clone, Copy)]

@@ -7,9 +7,8 @@ ghost use Rattle.pattern_language.specs.Contexts.{place_of};
 
 use crate::class_set::ClassSet;
 use crate::earlier::Earlier;
-use crate::element::Element;
 use crate::rules::{Context, broken_rule, in_option, in_repetition};
-use c_tokens::{List, MetaType};
+use c_tokens::{Element, List, MetaType};
 
 /// Which element breaks which rule. Elements are counted from 0 in the order of writing, an outer
 /// one before its inner ones; a number that does not fit is the largest one.

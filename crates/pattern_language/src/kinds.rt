@@ -2,14 +2,13 @@
 
 ghost use Rattle.std.specs.Prelude.{◌≡◌, IsTrue};
 ghost use Rattle.std.specs.List.{list_all};
-ghost use Rattle.pattern_language.specs.declared.class.Class.{Class};
+ghost use Rattle.c_tokens.specs.declared.class.Class.{Class};
 ghost use Rattle.pattern_language.specs.Sets.{has};
 ghost use Rattle.pattern_language.specs.Classes.{one_of, is_common};
 ghost use Rattle.pattern_language.specs.Kinds as kinds;
 
-use crate::class::Class;
 use crate::class_set::ClassSet;
-use c_tokens::{Key, Kind, Punct};
+use c_tokens::{Class, Key, Kind, Punct};
 
 /// Type specifiers that are keywords (ISO/IEC 9899:1990, 6.5.2).
 const TYPES: [Class; 9] = [

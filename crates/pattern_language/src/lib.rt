@@ -1,18 +1,14 @@
 //! The language of patterns.
 #![tactic(auto)]
 
-mod class;
 mod class_set;
 mod earlier;
-mod element;
 mod fit;
 mod kinds;
 mod lists;
 mod rules;
 
-pub use class::Class;
 pub use class_set::ClassSet;
-pub use element::Element;
 pub use fit::{Fit, PatternFault, check};
 pub use kinds::{cont, first};
 pub use lists::{cont_of, first_of, is_plain};

@@ -1,16 +1,14 @@
 //! What lists of elements begin with, and what may go on with them.
 
 ghost use Rattle.std.specs.Prelude.{◌≡◌};
-ghost use Rattle.pattern_language.specs.declared.class.Class.{Class};
+ghost use Rattle.c_tokens.specs.declared.class.Class.{Class};
 ghost use Rattle.pattern_language.specs.Sets.{has};
 ghost use Rattle.pattern_language.specs.Patterns.{pattern_of, names};
 ghost use Rattle.pattern_language.specs.Patterns as patterns;
 
-use crate::class::Class;
 use crate::class_set::ClassSet;
-use crate::element::Element;
 use crate::kinds::{cont, first};
-use c_tokens::{Shape, Token, Word};
+use c_tokens::{Class, Element, Shape, Token, Word};
 
 /// Whether no token can spell the elements.
 #[tactic(auto, using(crate::proofs::Elements::rests), unfolding(crate::specs::Patterns::can_be_empty))]

@@ -1,7 +1,7 @@
 //! The rules by which the next token alone decides how a pattern goes on.
 
 ghost use Rattle.std.specs.Prelude.{◌≡◌, ◌<◌, ◌↔◌, IsTrue};
-ghost use Rattle.pattern_language.specs.declared.class.Class.{Class};
+ghost use Rattle.c_tokens.specs.declared.class.Class.{Class};
 ghost use Rattle.pattern_language.specs.Sets.{has};
 ghost use Rattle.pattern_language.specs.Patterns.{pattern_of};
 ghost use Rattle.pattern_language.specs.Patterns as patterns;
@@ -9,13 +9,11 @@ ghost use Rattle.pattern_language.specs.Rules as rules;
 ghost use Rattle.pattern_language.specs.Rules.{IsJudged};
 ghost use Rattle.pattern_language.specs.Contexts.{place_of};
 
-use crate::class::Class;
 use crate::class_set::ClassSet;
 use crate::earlier::Earlier;
-use crate::element::Element;
 use crate::kinds::cont;
 use crate::lists::{between, can_be_empty, first_of, holds_binder};
-use c_tokens::{Base, Kind, MetaType, Token, Word};
+use c_tokens::{Base, Class, Element, Kind, MetaType, Token, Word};
 
 /// Where a list of elements stands: in how many repetitions and options, after which binders, what
 /// may follow it, whether the end may, and whether it is the whole pattern.

@@ -5,8 +5,8 @@
 //! the separator or `_` after it, and `M` an option with its intro; each ends at a dot. `w` is a
 //! word, `E` is `else`, and every other character is itself.
 
-use crate::{Element, check, is_plain};
-use c_tokens::{Base, Key, Kind, List, MetaType, Punct, Shape, Span, Token, Word};
+use crate::{check, is_plain};
+use c_tokens::{Base, Element, Key, Kind, List, MetaType, Punct, Shape, Span, Token, Word};
 use sqlite_items::Items;
 use std::alloc::Global;
 use std::test::Fail;
@@ -26,9 +26,29 @@ const STMTS: MetaType = MetaType {
     lists: 1,
 };
 
+const DECL: MetaType = MetaType {
+    base: Base::Tree(Kind::Decl),
+    lists: 0,
+};
+
 const DECLS: MetaType = MetaType {
     base: Base::Tree(Kind::Decl),
     lists: 1,
+};
+
+const ITEM: MetaType = MetaType {
+    base: Base::Tree(Kind::Item),
+    lists: 0,
+};
+
+const ITEMS: MetaType = MetaType {
+    base: Base::Tree(Kind::Item),
+    lists: 1,
+};
+
+const SPEC: MetaType = MetaType {
+    base: Base::Tree(Kind::Spec),
+    lists: 0,
 };
 
 /// A pattern, the result, and the first element that breaks a rule with the lowest one, or 0 where
@@ -158,7 +178,12 @@ fn first_broken_rules(rt: HostRuntime) -> Result<(), Fail> {
         Row("s0", STMT, 0, 0),
         Row("s0", STMTS, 0, 0),
         Row("s0", EXP, 0, 6),
+        Row("s0", DECL, 0, 6),
         Row("s0", DECLS, 0, 6),
+        Row("s0", ITEM, 0, 6),
+        Row("s0", ITEMS, 0, 6),
+        Row("s0", SPEC, 0, 6),
+        Row("i0s1", STMTS, 0, 0),
         Row(";s0", STMT, 0, 0),
         Row("R;s0.", STMT, 0, 6),
         Row("(R,e0.)", EXP, 0, 0),
@@ -166,6 +191,10 @@ fn first_broken_rules(rt: HostRuntime) -> Result<(), Fail> {
         Row("(R,;.)", EXP, 1, 3),
         Row("(R,M=e0..)", EXP, 1, 3),
         Row("(M,;.)", EXP, 1, 3),
+        Row("(R,i0M=;..)", EXP, 3, 3),
+        Row("(R;(R,i0.i1).)", EXP, 3, 5),
+        Row("(P_(M=i0.=).)", EXP, 3, 5),
+        Row("R*,e0.;", EXP, 2, 4),
         Row("i0i0;", STMT, 1, 2),
         Row("i0(R,i0.)", EXP, 3, 2),
         Row("(R,i0.)i0;", STMT, 4, 2),

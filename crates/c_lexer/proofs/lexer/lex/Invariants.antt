@@ -6,4 +6,4 @@ abbrev pub decreases-loop-at : goal.decreases-loop-at
 decreases-loop-at l = length l.bytes - l.at
 
 abbrev pub invariant-loop-at : goal.invariant-loop-at
-invariant-loop-at l = Read l.bytes l.fn.words l.at l.tokens.items l.words
+invariant-loop-at l = Read l.dialect l.bytes l.fn.words l.at l.first l.tokens.items l.words

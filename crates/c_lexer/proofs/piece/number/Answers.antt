@@ -1,10 +1,7 @@
-use Rattle.std.proofs.Common.{◌≡◌, ◌<◌, ◌≤◌, ◌+◌, ℕ, List, ap, sym, ◌∙◌, rules, arith, length, take, drop, get_or, if◌then◌else◌, cond, Bool, true, false}
+use Rattle.std.proofs.Common.{◌≡◌, ◌<◌, ◌≤◌, ◌+◌, ap, ◌∙◌, rules, arith, length, drop, get_or}
 use Rattle.std.proofs.lemmas.List.{length-take, length-drop}
-use Rattle.c_tokens.specs.Spelling.{is_decimal, token, refused, integer}
 use Rattle.c_tokens.specs.Runs.{number_run}
 use Rattle.c_tokens.proofs.Reaches.{number_run-le}
-use Rattle.c_lexer.specs.declared.piece.Meaning.TheVariants as m
-use Rattle.c_lexer.specs.declared.piece.Sort.TheVariants as s
 use Rattle.c_lexer.proofs.Heads.{part}
 use Rattle.c_lexer.proofs.Found.{some_in_number, number_found}
 use Rattle.c_lexer.proofs.piece.number.Goals as goal
@@ -31,20 +28,11 @@ overflow_add-length c =
     let w : 1 + c.number_length-length.result ≤ length c.args.text.now = within c in
     search rules
 
-pub slice_bounds-is_decimal-end : goal.slice_bounds-is_decimal-end
-slice_bounds-is_decimal-end c = omega (arith, within c, length-take (1 + c.number_length-length.result) c.args.text.now)
+pub slice_bounds-number_meaning-end : goal.slice_bounds-number_meaning-end
+slice_bounds-number_meaning-end c = omega (arith, within c, length-take (1 + c.number_length-length.result) c.args.text.now)
 
-says : (t : List ℕ) (b : Bool) → is_decimal t ≡ b → cond b (token integer) refused ≡ (if is_decimal t then token integer else refused)
-says t b e = ap (λ x. cond x (token integer) refused) (sym e)
-
-pub returns-then-is_decimal : goal.returns-then-is_decimal
-returns-then-is_decimal c =
+pub returns : goal.returns
+returns c d o =
     let n = 1 + c.number_length-length.result in
-    number_found c.args.text.now (record { length = n; meaning = m.Token s.Integer }) c.requires (ap (λ k. 1 + k) (c.number_length-length.ensures ∙ ap (number_run (get_or c.args.text.now 0 0)) (part c.args.text.now 1)))
-    (says (take n c.args.text.now) true (sym c.is_decimal.ensures ∙ c.if-is_decimal.true))
-
-pub returns-else-is_decimal : goal.returns-else-is_decimal
-returns-else-is_decimal c =
-    let n = 1 + c.number_length-length.result in
-    number_found c.args.text.now (record { length = n; meaning = m.Refused }) c.requires (ap (λ k. 1 + k) (c.number_length-length.ensures ∙ ap (number_run (get_or c.args.text.now 0 0)) (part c.args.text.now 1)))
-    (says (take n c.args.text.now) false (sym c.is_decimal.ensures ∙ c.if-is_decimal.false))
+    number_found d c.args.text.now (record { length = n; meaning = c.number_meaning-meaning.result }) c.requires o
+    (ap (λ k. 1 + k) (c.number_length-length.ensures ∙ ap (number_run (get_or c.args.text.now 0 0)) (part c.args.text.now 1))) c.number_meaning-meaning.ensures

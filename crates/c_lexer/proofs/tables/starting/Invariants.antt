@@ -1,6 +1,6 @@
 use Rattle.std.proofs.Common.{◌≡◌, drop}
 use Rattle.c_tokens.specs.Runs.{first_prefix}
-use Rattle.c_lexer.specs.Shown.{shown}
+use Rattle.c_tokens.specs.Shown.{shown}
 use Rattle.c_lexer.proofs.tables.starting.Given as goal
 
 abbrev pub invariant-loop-spelled : goal.invariant-loop-spelled

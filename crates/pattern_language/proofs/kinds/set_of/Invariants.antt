@@ -1,5 +1,5 @@
 use Rattle.std.proofs.Common.{◌≡◌, take}
-use Rattle.pattern_language.specs.declared.class.Class.{Class}
+use Rattle.c_tokens.specs.declared.class.Class.{Class}
 use Rattle.pattern_language.specs.Sets.{has}
 use Rattle.pattern_language.specs.Classes.{one_of}
 use Rattle.pattern_language.proofs.kinds.set_of.Given as goal

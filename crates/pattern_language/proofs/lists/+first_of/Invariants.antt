@@ -1,5 +1,5 @@
 use Rattle.std.proofs.Common.{◌≡◌, drop, ◌||◌}
-use Rattle.pattern_language.specs.declared.class.Class.{Class}
+use Rattle.c_tokens.specs.declared.class.Class.{Class}
 use Rattle.pattern_language.specs.Sets.{has}
 use Rattle.pattern_language.specs.Patterns.{pattern_of, first_of}
 use Rattle.pattern_language.proofs.lists.+first_of.Given as goal

@@ -1,6 +1,5 @@
-use Rattle.std.proofs.Common.{◌≡◌, sym, ap, ◌∙◌, subst, refl, true, false, map, ◌∷◌, ◌++◌, []}
-use Rattle.c_tokens.specs.Tokens.{with_text}
-use Rattle.fresh_names.specs.Names.{is_among, is_name, with_fresh}
+use Rattle.std.proofs.Common.{sym, ap, ◌∙◌, map}
+use Rattle.fresh_names.specs.Names.{is_among}
 use Rattle.fresh_names.specs.Table.{AllTakenBelow, AreKnown}
 use Rattle.fresh_names.proofs.Kept.{kept_or, known-with_text, taken-with_text, no_word-not_fresh}
 use Rattle.fresh_names.proofs.names.Names.constant.Goals as goal

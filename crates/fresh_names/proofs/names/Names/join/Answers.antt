@@ -1,8 +1,5 @@
-use Rattle.std.proofs.Common.{◌≡◌, sym, ap, ◌∙◌, subst, refl, true, false, map, ◌∷◌, ◌++◌, [], bytes_eq, Some, unwrap_or, position, IfOk}
-use Rattle.c_tokens.specs.Tokens.{with_text}
-use Rattle.indexmap.specs.IndexSet.{insert_key}
-use Rattle.fresh_names.specs.Names.{is_among, is_name, with_fresh, text_at}
-use Rattle.fresh_names.specs.Table.{AllTakenBelow, AreKnown}
+use Rattle.std.proofs.Common.{◌≡◌, sym, ap, ◌∙◌, subst, ◌++◌, [], bytes_eq, Some, unwrap_or, position, IfOk}
+use Rattle.fresh_names.specs.Names.{text_at}
 use Rattle.fresh_names.proofs.names.Names.join.Goals as goal
 
 pub returns-in-Ok-clause-word : goal.returns-in-Ok-clause-word

@@ -1,8 +1,7 @@
-use Rattle.std.proofs.Common.{◌≡◌, sym, ap, ◌∙◌, subst, refl, true, false, map, ◌∷◌, ◌++◌, [], bytes_eq, Some, unwrap_or, position, IfOk}
+use Rattle.std.proofs.Common.{ap, ◌∙◌, map, ◌∷◌, ◌++◌, [], bytes_eq}
 use Rattle.c_tokens.specs.Tokens.{with_text}
 use Rattle.indexmap.specs.IndexSet.{insert_key}
-use Rattle.fresh_names.specs.Names.{is_among, is_name, with_fresh, text_at}
-use Rattle.fresh_names.specs.Table.{AllTakenBelow, AreKnown}
+use Rattle.fresh_names.specs.Names.{is_among, with_fresh}
 use Rattle.fresh_names.proofs.Kept.{with_text-new, inserted-map, new-not_fresh, put-keeps, same_names}
 use Rattle.fresh_names.proofs.names.Names.put.Goals as goal
 

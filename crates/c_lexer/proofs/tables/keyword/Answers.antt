@@ -1,7 +1,0 @@
-use Rattle.c_tokens.specs.Spelling.{keywords}
-use Rattle.c_lexer.specs.Shown.{shown}
-use Rattle.c_lexer.proofs.tables.keyword.Goals as goal
-
-pub returns : goal.returns
-unfolding keywords shown
-returns c = c.find.ensures

@@ -1,7 +1,0 @@
-use Rattle.c_tokens.specs.Spelling.{word_marks}
-use Rattle.c_lexer.specs.Shown.{shown}
-use Rattle.c_lexer.proofs.tables.word_mark.Goals as goal
-
-pub returns : goal.returns
-unfolding word_marks shown
-returns c = c.find.ensures
