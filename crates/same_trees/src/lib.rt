@@ -1,0 +1,8 @@
+//! Sameness of syntax trees, spans aside.
+#![tactic(auto)]
+
+mod leaves;
+mod same;
+mod sameness;
+
+pub use sameness::Same;

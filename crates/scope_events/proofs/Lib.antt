@@ -1,0 +1,4 @@
+mod EventViews
+mod SizeViews
+mod Gathered
+mod Worked

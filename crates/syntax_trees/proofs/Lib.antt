@@ -1,0 +1,4 @@
+pub mod PartTests
+pub mod MeasureViews
+pub mod StandingViews
+pub mod Forms
