@@ -2,13 +2,14 @@
 use Rattle.std.proofs.Common.{◌≡◌, ◌⊎◌, inl, inr, refl, subst, ap, sym, ◌∙◌, ℕ, ◌+◌, ◌-◌, ◌<◌, ◌≤◌, Bool, true, false, List, length, Option, Some, None, Ok, Err, arith}
 use Rattle.std.proofs.lemmas.Bool.{cases_lt}
 use Rattle.std.proofs.lemmas.List.{get_or_past}
+use Rattle.c_tokens.specs.declared.span.Span.{Span}
 use Rattle.c_tokens.specs.declared.token.Shape.{Shape}
 use Rattle.c_tokens.specs.declared.token.Token.{Token}
 use Rattle.c_tokens.specs.declared.token.Shape.TheVariants.{End}
 use Rattle.c_grammar.specs.declared.refusal.Refusal.{Refusal}
-use Rattle.c_grammar.specs.Reader.{Input, Reader, Outcome, Turn, More, Last, Give, Refuse, Look, Next, Pick, Bind, Fits, Call, Loop, pick, when, choose, and_then, kind, turn_while, repeat}
+use Rattle.c_grammar.specs.Reader.{Input, Reader, Outcome, Turn, More, Last, Give, Refuse, Look, Where, Next, Pick, Bind, Fits, Call, Loop, pick, when, choose, and_then, kind, turn_while, repeat}
 use Rattle.c_grammar.specs.Grammar.{read}
-use Rattle.c_grammar.specs.Reader.{shape_at, the_end}
+use Rattle.c_grammar.specs.Reader.{shape_at, span_at, the_end}
 use Rattle.c_grammar.proofs.Loops.{split, same_answer, same_pair, Both}
 use Rattle.c_grammar.proofs.Bounds.{Bounded}
 use Rattle.c_grammar.proofs.Repeats.{goes_on, ends_with, fails_with}
@@ -19,6 +20,7 @@ abbrev pub Takes : {A : Type 0} → Reader A → Type 0
 Takes (Give a) = ⊥
 Takes Refuse = Unit {0}
 Takes (Look f) = (x : Shape) → Takes (f x)
+Takes (Where f) = (a b : Span) → Takes (f a b)
 Takes (Next r) = Unit {0}
 Takes (Pick f) = Unit {0}
 Takes (Bind {B = B} r f) = Takes r ⊎ ((b : B) → Takes (f b))
@@ -70,6 +72,7 @@ takes : {A : Type 0} (d : ℕ) (w : List Token) (r : Reader A) (i : ℕ) → Tak
 takes d w (Give a) i T = absurd T
 takes d w Refuse i T = tt
 takes d w (Look f) i T = takes d w (f (shape_at w i)) i (T (shape_at w i))
+takes d w (Where f) i T = takes d w (f (span_at w (i - 1)) (span_at w i)) i (T (span_at w (i - 1)) (span_at w i))
 takes d w (Next r) i T = strict_next w i (read d r (from w (i + 1))) (onward d w r (i + 1))
 takes d w (Pick f) i T = strict_pick w i (f (shape_at w i))
 takes d w (Bind r f) i T = takes_bind d w r f i (takes d w r i) (λ b j. takes d w (f b) j) T

@@ -1,24 +1,26 @@
 -- Each rule is live.
-use Rattle.std.proofs.Common.{◌≡◌, refl, subst, ap, sym, ◌∙◌, ℕ, suc, ◌+◌, ◌<◌, max, nat_lt, Bool, true, false, List, [], ◌∷◌, ◌++◌, Option, Some, None, Ok, arith}
+use Rattle.std.proofs.Common.{◌≡◌, refl, subst, ap, sym, ◌∙◌, ℕ, suc, ◌+◌, ◌-◌, ◌<◌, max, nat_lt, Bool, true, false, List, [], ◌∷◌, ◌++◌, Option, Some, None, Ok, arith}
 use Rattle.std.proofs.lemmas.Bool.{lt-ltb}
 use Rattle.std.proofs.lemmas.Bool.Decides.{Decides-eqb}
 use Rattle.std.proofs.lemmas.List.{append-nil}
 use borrow.Author.Tests.{ltb-true}
 use Rattle.c_tokens.specs.declared.token.Word.{Word}
+use Rattle.c_tokens.specs.declared.span.Span.{Span}
 use Rattle.c_tokens.specs.declared.token.Shape.{Shape}
 use Rattle.c_tokens.specs.declared.token.Shape.TheVariants as s
 use Rattle.c_tokens.specs.declared.token.Token.{Token}
 use Rattle.c_tokens.specs.declared.token.Key.TheVariants as key
 use Rattle.c_tokens.specs.declared.token.Punct.TheVariants as punct
 use Rattle.c_tokens.specs.declared.token.Mark.TheVariants as mark
-use Rattle.c_trees.specs.declared.tree.Exp.{Exp}
-use Rattle.c_trees.specs.declared.tree.Exp.TheVariants as e
-use Rattle.c_trees.specs.declared.tree.Item.TheVariants as item
+use Rattle.syntax_trees.specs.declared.plain.PlainExp.{PlainExp}
+use Rattle.syntax_trees.specs.declared.plain.PlainExp.TheVariants as e
+use Rattle.c_trees.specs.Calls.{first_hole}
+use Rattle.c_trees.specs.declared.first.Item.TheVariants as item
 use Rattle.c_grammar.specs.declared.context.Context.{Context}
 use Rattle.c_grammar.specs.declared.context.Context.TheVariants.{InItem, InArgument, InTemplate}
 use Rattle.c_grammar.specs.Words.{is_identifier, callee, binder, is_exp}
-use Rattle.c_grammar.specs.Reader.{Input, Reader, More, Last, Rule, Expression, MetaBlock, Found, Give, Look, Next, Pick, Bind, Fits, Call, pick, choose, token, next, shape_at, ◌>>=◌, ◌>>◌}
-use Rattle.c_grammar.specs.Grammar.{read, below, body, binds, joined, is_opening, is_closing, is_equal, is_semicolon, is_colon, is_right_brace, is_return, is_result, is_pattern_open, is_pattern_close, is_bind, word_of, identifier_of, is_kind, is_named, parenthesized, called, placed, reserved, placeholder, primary_by, primary, longer, climb, expression, quoted, quote_by, quote, meta_block, block_by, block, bound, pattern, definition, declaration, defined, item_by, an_item, chosen}
+use Rattle.c_grammar.specs.Reader.{Input, Reader, More, Last, Rule, Expression, MetaBlock, Found, Give, Look, Where, Next, Pick, Bind, Fits, Call, pick, choose, token, next, before, through, shape_at, span_at, ◌>>=◌, ◌>>◌}
+use Rattle.c_grammar.specs.Grammar.{read, below, body, binds, joined, is_opening, is_closing, is_equal, is_semicolon, is_colon, is_right_brace, is_return, is_result, is_pattern_open, is_pattern_close, is_bind, word_of, identifier_of, is_kind, is_named, parenthesized, called, closed, itself, call_from, placed, reserved, placeholder, primary_by, primary, longer, climb, expression, quoted, quote_by, quote, meta_block, block_by, block, bound, pattern, definition, declaration, defined, item_by, an_item, chosen}
 use Rattle.c_grammar.specs.Laws.{IsKnown}
 use Rattle.c_grammar.proofs.Sets.{Tokens, anything}
 use Rattle.c_grammar.proofs.Loops.{split, same_answer}
@@ -34,17 +36,21 @@ tame_choose : {A : Type 0} (b : Bool) (r q : Reader A) → Tame r → Tame q →
 tame_choose true r q T U = T
 tame_choose false r q T U = U
 
+tame_closed : (f : PlainExp → Span → Span → PlainExp) (inner : Found) → Tame (closed f inner)
+unfolding closed
+tame_closed f inner = λ _ _. (tt, λ _ _ _. tt)
+
 tame_parenthesized : (c : Context) → Tame (parenthesized c)
 unfolding parenthesized
-tame_parenthesized c = (omega arith, λ _. (tt, λ _. tt))
+tame_parenthesized c = (omega arith, tame_closed itself)
 
 tame_called : (m : Word) → Tame (called m)
 unfolding called
-tame_called m = (tt, λ _. (omega arith, λ _. (tt, λ _. tt)))
+tame_called m = λ name _. (tt, λ _ _ first. (omega arith, tame_closed (call_from name first)))
 
 tame_placed : (x : Word) → Tame (placed x)
 unfolding placed
-tame_placed x = (tt, λ _. tt)
+tame_placed x = λ _ _. (tt, λ _. tt)
 
 tame_reserved : (m : Option Word) → Tame (reserved m)
 tame_reserved None = tt
@@ -55,8 +61,8 @@ tame_placeholder None = tt
 tame_placeholder (Some x) = tame_placed x
 
 tame_primary_by : (c : Context) (x : Shape) → Tame (primary_by c x)
-tame_primary_by c (s.Word n) = tame_choose (is_identifier c n) (Next (Give (e.Name n, 0))) (reserved (callee c)) tt (tame_reserved (callee c))
-tame_primary_by c (s.Int n) = tt
+tame_primary_by c (s.Word n) = tame_choose (is_identifier c n) (Where (λ _ span. Next (Give (e.Name n span, 0)))) (reserved (callee c)) (λ _ _. tt) (tame_reserved (callee c))
+tame_primary_by c (s.Int n) = λ _ _. tt
 tame_primary_by c (s.Punct punct.LeftParen) = tame_parenthesized c
 tame_primary_by c (s.Mark mark.Hole) = tame_placeholder (binder c)
 tame_primary_by c _ = tt
@@ -65,20 +71,20 @@ tame_primary : (c : Context) → Tame (primary c)
 unfolding primary
 tame_primary c = tame_primary_by c
 
-tame_longer : (c : Context) (left : Found) (x : Shape) → Tame (longer c left x)
+tame_longer : (c : Context) (first : Span) (left : Found) (x : Shape) → Tame (longer c first left x)
 unfolding longer
-tame_longer c left x = (omega arith, λ _. tt)
+tame_longer c first left x = (omega arith, λ _ _ _. tt)
 
-tame_climb : (c : Context) (least : ℕ) (left : Found) → Tame (climb c least left)
+tame_climb : (c : Context) (least : ℕ) (first : Span) (left : Found) → Tame (climb c least first left)
 unfolding climb
-tame_climb c least left = (
-  bounded c least,
-  λ left x. tame_choose (nat_lt (binds x) least) (Give (Last left)) (longer c left x >>= λ more. Give (More more)) tt (tame_longer c left x, λ _. tt),
+tame_climb c least first left = (
+  bounded c least first,
+  λ left x. tame_choose (nat_lt (binds x) least) (Give (Last left)) (longer c first left x >>= λ more. Give (More more)) tt (tame_longer c first left x, λ _. tt),
 )
 
 tame_expression : (c : Context) (least : ℕ) → Tame (expression c least)
 unfolding expression
-tame_expression c least = (tame_primary c, tame_climb c least)
+tame_expression c least = λ _ first. (tame_primary c, tame_climb c least first)
 
 tame_quoted : (x : Word) → Tame (quoted x)
 unfolding quoted
@@ -157,6 +163,10 @@ fin_look Q f x u F v i j h q = let E : Ends (f x) v i j = F v i j h q in record 
   reads = subst (λ y. read E.levels (f y) (from v i) ≡ Ok (E.value, from v j)) (sym h.0) E.reads;
 }
 
+fin_where : {A : Type 0} (Q : Tokens) (f : Span → Span → Reader A) (u : List Shape) → ((a b : Span) → Finishes Q (f a b) u) → Finishes Q (Where f) u
+fin_where Q f u F v i j h q = let E : Ends (f (span_at v (i - 1)) (span_at v i)) v i j = F (span_at v (i - 1)) (span_at v i) v i j h q in
+    record { levels = E.levels; value = E.value; reads = E.reads }
+
 fin_next : {A : Type 0} (Q : Tokens) (r : Reader A) (x : Shape) (u : List Shape) → Finishes Q r u → Finishes Q (Next r) (x ∷ u)
 fin_next Q r x u F v i j h q = let E : Ends r v (i + 1) j = F v (i + 1) j h.1 q in record { levels = E.levels; value = E.value; reads = E.reads }
 
@@ -174,9 +184,9 @@ fin_fits : {A : Type 0} (Q : Tokens) (h : ℕ) (r : Reader A) (x : Shape) (u : L
 fin_fits Q h r x u F v i j h' q = raised h r v i j (F v (i + 1) j h'.1 q)
 
 -- a chain ends at a token that doesn't continue it
-chain : (c : Context) (least : ℕ) → 0 < least → (left : Found) → Finishes (following (Expression c least)) (climb c least left) []
-chain c least some left v i j h q = let less : binds (shape_at v i) < least = (let e : binds (shape_at v i) < 1 = ltb-true (binds (shape_at v i)) 1 (ap (λ k. nat_lt (binds (shape_at v k)) 1) h ∙ q) in omega arith) in
-    record { levels = 0; value = left; reads = no_turn c 0 least left (from v i) (lt-ltb _ _ less) ∙ ap (λ k. Ok (left, from v k)) h }
+chain : (c : Context) (least : ℕ) → 0 < least → (first : Span) (left : Found) → Finishes (following (Expression c least)) (climb c least first left) []
+chain c least some first left v i j h q = let less : binds (shape_at v i) < least = (let e : binds (shape_at v i) < 1 = ltb-true (binds (shape_at v i)) 1 (ap (λ k. nat_lt (binds (shape_at v k)) 1) h ∙ q) in omega arith) in
+    record { levels = 0; value = left; reads = no_turn c 0 least first left (from v i) (lt-ltb _ _ less) ∙ ap (λ k. Ok (left, from v k)) h }
 
 -- what a reader put together answers, part by part
 pub record Parts (K : Shape → Type 0) {A B : Type 0} (r : Reader B) (f : B → Reader A) (a : A) : Type 0 where
@@ -261,6 +271,9 @@ module _ (K : Shape → Type 0) where
   alive_pick : {A : Type 0} (deep : ℕ) (Q : Tokens) (f : Shape → Option A) (x : Shape) (a : A) → f x ≡ Some a → K x → Alive K deep Q (Pick f) (x ∷ [])
   alive_pick deep Q f x a y k = record { usable = (k, tt); finishes = a_pick Q f x a y; lives = tt }
 
+  alive_where : {A : Type 0} (deep : ℕ) (Q : Tokens) (f : Span → Span → Reader A) (u : List Shape) → Each K u → ((a b : Span) → Alive K deep Q (f a b) u) → Alive K deep Q (Where f) u
+  alive_where deep Q f u k F = record { usable = k; finishes = fin_where Q f u (λ a b. (F a b).finishes); lives = λ a b. (F a b).lives }
+
   live_choose : {A : Type 0} (deep : ℕ) (Q : Tokens) (b : Bool) (r q : Reader A) → Live K deep Q r → Live K deep Q q → Live K deep Q (choose b r q)
   live_choose deep Q true r q R S = R
   live_choose deep Q false r q R S = S
@@ -277,14 +290,16 @@ module _ (names : List (List ℕ)) (zero : Word) (has_zero : IsKnown names (s.In
   abbrev constant : List Shape
   constant = s.Int zero ∷ []
 
-  a_constant : (c : Context) (v : List Token) (i : ℕ) → shape_at v i ≡ s.Int zero → read 0 (primary c) (from v i) ≡ Ok ((e.Int zero, 0), from v (i + 1))
+  a_constant : (c : Context) (v : List Token) (i : ℕ) → shape_at v i ≡ s.Int zero → read 0 (primary c) (from v i) ≡ Ok ((e.Int zero (span_at v i), 0), from v (i + 1))
   unfolding primary
   a_constant c v i h = rw h
 
   -- an expression can be a constant
   fin_expression : (c : Context) (least : ℕ) → 0 < least → Finishes (following (Expression c least)) (expression c least) constant
   unfolding expression
-  fin_expression c least some v i j h q = ends_bind (primary c) (climb c least) v i (i + 1) j (record { levels = 0; value = (e.Int zero, 0); reads = a_constant c v i h.0 }) (chain c least some (e.Int zero, 0) v (i + 1) j h.1 q)
+  fin_expression c least some = fin_where (following (Expression c least)) (λ _ first. primary c >>= climb c least first) constant (λ _ first v i j h q.
+      ends_bind (primary c) (climb c least first) v i (i + 1) j (record { levels = 0; value = (e.Int zero (span_at v i), 0); reads = a_constant c v i h.0 })
+      (chain c least some first (e.Int zero (span_at v i), 0) v (i + 1) j h.1 q))
 
   -- a call of an expression
   alive_operand : (c : Context) (least : ℕ) (Q : Tokens) → 0 < least → HasUsable K c → ((x : Shape) → Q x ≡ true → nat_lt (binds x) 1 ≡ true) → Alive K 1 Q (Call (Expression c least)) constant
@@ -300,20 +315,29 @@ module _ (names : List (List ℕ)) (zero : Word) (has_zero : IsKnown names (s.In
   alive_closed : {A : Type 0} (deep : ℕ) (Q : Tokens) (a : A) → Alive K deep Q (token is_closing >> Give a) (s.Punct punct.RightParen ∷ [])
   alive_closed deep Q a = alive_token K deep Q is_closing (Give a) (s.Punct punct.RightParen) [] refl tt (alive_give K deep Q a)
 
+  alive_enclosed : (deep : ℕ) (Q : Tokens) (f : PlainExp → Span → Span → PlainExp) (inner : Found) → Alive K deep Q (closed f inner) (s.Punct punct.RightParen ∷ [])
+  unfolding closed
+  alive_enclosed deep Q f inner = alive_where K deep Q _ (s.Punct punct.RightParen ∷ []) (tt, tt)
+      (λ last _. alive_token K deep Q is_closing (Where (λ close _. Give (f inner.0 last close, inner.1 + 1))) (s.Punct punct.RightParen) [] refl tt
+      (alive_where K deep Q _ [] tt (λ close _. alive_give K deep Q (f inner.0 last close, inner.1 + 1))))
+
   alive_parenthesized : (c : Context) (Q : Tokens) → HasUsable K c → Alive K 1 Q (parenthesized c) (s.Int zero ∷ s.Punct punct.RightParen ∷ [])
   unfolding parenthesized
   alive_parenthesized c Q has = alive_bind K 1 quiet Q (Call (Expression c 1)) _ constant (s.Punct punct.RightParen ∷ []) (alive_operand c 1 quiet (omega arith) has (λ x q. q)) refl (tt, tt)
-      (λ inner. alive_closed 1 Q (inner.0, inner.1 + 1))
+      (alive_enclosed 1 Q itself)
 
   alive_argument : (m : Word) (Q : Tokens) → Alive K 1 Q (called m) (s.Punct punct.LeftParen ∷ s.Int zero ∷ s.Punct punct.RightParen ∷ [])
   unfolding called
-  alive_argument m Q = alive_token K 1 Q is_opening _ (s.Punct punct.LeftParen) (s.Int zero ∷ s.Punct punct.RightParen ∷ []) refl tt
-      (alive_bind K 1 quiet Q (Call (Expression (InArgument m) 2)) _ constant (s.Punct punct.RightParen ∷ []) (alive_operand (InArgument m) 2 quiet (omega arith) tt (λ x q. q)) refl (tt, tt)
-      (λ argument. alive_closed 1 Q (e.Call argument.0, argument.1 + 1)))
+  alive_argument m Q = alive_where K 1 Q _ (s.Punct punct.LeftParen ∷ s.Int zero ∷ s.Punct punct.RightParen ∷ []) (tt, (has_zero, (tt, tt)))
+      (λ name _. alive_token K 1 Q is_opening _ (s.Punct punct.LeftParen) (s.Int zero ∷ s.Punct punct.RightParen ∷ []) refl tt
+      (alive_where K 1 Q (λ _ first. Call (Expression (InArgument m) 2) >>= closed (call_from name first)) (s.Int zero ∷ s.Punct punct.RightParen ∷ []) (has_zero, (tt, tt))
+      (λ _ first. alive_bind K 1 quiet Q (Call (Expression (InArgument m) 2)) (closed (call_from name first)) constant (s.Punct punct.RightParen ∷ [])
+      (alive_operand (InArgument m) 2 quiet (omega arith) tt (λ x q. q)) refl (tt, tt) (alive_enclosed 1 Q (call_from name first)))))
 
   alive_placed : (x : Word) (Q : Tokens) → K (s.Word x) → Alive K 1 Q (placed x) (s.Word x ∷ [])
   unfolding placed
-  alive_placed x Q k = alive_token K 1 Q (is_named x) (Give (e.Hole, 1)) (s.Word x) [] ((Decides-eqb x.0 x.0).1 refl) k (alive_give K 1 Q (e.Hole, 1))
+  alive_placed x Q k = alive_where K 1 Q _ (s.Word x ∷ []) (k, tt) (λ sign word.
+      alive_token K 1 Q (is_named x) (Give (first_hole (through sign word), 1)) (s.Word x) [] ((Decides-eqb x.0 x.0).1 refl) k (alive_give K 1 Q (first_hole (through sign word), 1)))
 
   live_reserved : (m : Option Word) (Q : Tokens) → Live K 0 Q (reserved m)
   live_reserved None Q = tt
@@ -326,9 +350,9 @@ module _ (names : List (List ℕ)) (zero : Word) (has_zero : IsKnown names (s.In
   live_placeholder (InTemplate x) Q has = (phrase K 1 Q (placed x) (s.Word x ∷ []) (alive_placed x Q has), (alive_placed x Q has).lives)
 
   live_primary_by : (c : Context) (Q : Tokens) → HasUsable K c → (x : Shape) → Live K 0 Q (primary_by c x)
-  live_primary_by c Q has (s.Word n) = live_choose K 0 Q (is_identifier c n) (Next (Give (e.Name n, 0))) (reserved (callee c))
-      (record { tokens = []; usable = tt; finishes = give Q (e.Name n, 0) }, tt) (live_reserved (callee c) Q)
-  live_primary_by c Q has (s.Int n) = (record { tokens = []; usable = tt; finishes = give Q (e.Int n, 0) }, tt)
+  live_primary_by c Q has (s.Word n) = live_choose K 0 Q (is_identifier c n) (Where (λ _ span. Next (Give (e.Name n span, 0)))) (reserved (callee c))
+      (λ _ span. (record { tokens = []; usable = tt; finishes = give Q (e.Name n span, 0) }, tt)) (live_reserved (callee c) Q)
+  live_primary_by c Q has (s.Int n) = λ _ span. (record { tokens = []; usable = tt; finishes = give Q (e.Int n span, 0) }, tt)
   live_primary_by c Q has (s.Punct punct.LeftParen) = (phrase K 1 Q (parenthesized c) (s.Int zero ∷ s.Punct punct.RightParen ∷ []) (alive_parenthesized c Q has), (alive_parenthesized c Q has).lives)
   live_primary_by c Q has (s.Mark mark.Hole) = live_placeholder c Q has
   live_primary_by c Q has _ = tt
@@ -337,23 +361,32 @@ module _ (names : List (List ℕ)) (zero : Word) (has_zero : IsKnown names (s.In
   unfolding primary
   live_primary c Q has = live_primary_by c Q has
 
-  live_longer : (c : Context) (left : Found) (x : Shape) → HasUsable K c → Live K 0 quiet (longer c left x)
+  live_longer : (c : Context) (first : Span) (left : Found) (x : Shape) → HasUsable K c → Live K 0 quiet (longer c first left x)
   unfolding longer
-  live_longer c left x has = (
-    record {
-      tokens = constant;
-      usable = (has_zero, tt);
-      finishes = fin_give quiet (Call (Expression c (binds x + 1))) (λ right. (joined x left.0 right.0, max left.1 right.1 + 1)) constant (alive_operand c (binds x + 1) quiet (omega arith) has (λ x q. q)).finishes;
-    },
-    live_give K (suc left.1) quiet quiet (Call (Expression c (binds x + 1))) (λ right. (joined x left.0 right.0, max left.1 right.1 + 1)) (λ x q. q) (omega arith, has, omega arith, λ x q. q),
-  )
+  live_longer c first left x has =
+      let made : Found → Span → Found = λ right last. (joined x left.0 right.0 (through first last), max left.1 right.1 + 1) in
+      let after : Found → Reader Found = λ right. Where (λ last _. Give (made right last)) in
+      let finished : (right : Found) → Finishes quiet (after right) [] = λ right. fin_where quiet (λ last _. Give (made right last)) [] (λ last _. give quiet (made right last)) in (
+        record {
+          tokens = constant;
+          usable = (has_zero, tt);
+          finishes = fin_last quiet quiet (Call (Expression c (binds x + 1))) after constant (alive_operand c (binds x + 1) quiet (omega arith) has (λ x q. q)).finishes (λ x q. q) finished;
+        },
+        (
+          quiet,
+          (
+            (omega arith, has, omega arith, λ x q. q),
+            (record { tokens = []; usable = tt; opens = λ x q. q; finishes = finished }, λ right _ _ _. tt),
+          ),
+        ),
+      )
 
-  live_climb : (c : Context) (least : ℕ) → 0 < least → HasUsable K c → (left : Found) → Live K 0 quiet (climb c least left)
+  live_climb : (c : Context) (least : ℕ) → 0 < least → HasUsable K c → (first : Span) (left : Found) → Live K 0 quiet (climb c least first left)
   unfolding climb
-  live_climb c least some has left = (
-    (λ left x. live_choose K 0 quiet (nat_lt (binds x) least) (Give (Last left)) (longer c left x >>= λ more. Give (More more)) tt
-        (live_give K 0 quiet quiet (longer c left x) More (λ x q. q) (live_longer c left x has))),
-    (bounded c least, chain c least some),
+  live_climb c least some has first left = (
+    (λ left x. live_choose K 0 quiet (nat_lt (binds x) least) (Give (Last left)) (longer c first left x >>= λ more. Give (More more)) tt
+        (live_give K 0 quiet quiet (longer c first left x) More (λ x q. q) (live_longer c first left x has))),
+    (bounded c least first, chain c least some first),
   )
 
   alive_expression : (c : Context) (least : ℕ) → 0 < least → HasUsable K c → Alive K 0 quiet (expression c least) constant
@@ -361,7 +394,7 @@ module _ (names : List (List ℕ)) (zero : Word) (has_zero : IsKnown names (s.In
   alive_expression c least some has = record {
     usable = (has_zero, tt);
     finishes = fin_expression c least some;
-    lives = (quiet, (live_primary c quiet has, (record { tokens = []; usable = tt; opens = λ x q. q; finishes = chain c least some }, λ b _. live_climb c least some has b)));
+    lives = λ _ first. (quiet, (live_primary c quiet has, (record { tokens = []; usable = tt; opens = λ x q. q; finishes = chain c least some first }, λ b _. live_climb c least some has first b)));
   }
 
   -- ---- the body of a macro
@@ -395,11 +428,11 @@ module _ (names : List (List ℕ)) (zero : Word) (has_zero : IsKnown names (s.In
   abbrev ending : List Shape
   ending = s.Punct punct.Semicolon ∷ s.Punct punct.RightBrace ∷ []
 
-  alive_ended : (template : Exp) (Q : Tokens) → Alive K 0 Q (token is_semicolon >> (token is_right_brace >> Give template)) ending
+  alive_ended : (template : PlainExp) (Q : Tokens) → Alive K 0 Q (token is_semicolon >> (token is_right_brace >> Give template)) ending
   alive_ended template Q = alive_token K 0 Q is_semicolon (token is_right_brace >> Give template) (s.Punct punct.Semicolon) (s.Punct punct.RightBrace ∷ []) refl tt
       (alive_token K 0 Q is_right_brace (Give template) (s.Punct punct.RightBrace) [] refl tt (alive_give K 0 Q template))
 
-  abbrev returning : Word → Reader Exp
+  abbrev returning : Word → Reader PlainExp
   returning x = quote x >>= λ template. token is_semicolon >> (token is_right_brace >> Give template)
 
   fin_returning : (x : Word) (Q : Tokens) → Finishes Q (returning x) (quoting ++ ending)

@@ -1,7 +1,8 @@
 -- Loops that end.
 use Rattle.std.proofs.Common.{ℕ, ◌+◌, ◌<◌, ◌≤◌, length}
+use Rattle.c_tokens.specs.declared.span.Span.{Span}
 use Rattle.c_tokens.specs.declared.token.Shape.{Shape}
-use Rattle.c_grammar.specs.Reader.{Input, Reader, Turn, Rule, Expression, MetaBlock, Give, Refuse, Look, Next, Pick, Bind, Fits, Call, Loop}
+use Rattle.c_grammar.specs.Reader.{Input, Reader, Turn, Rule, Expression, MetaBlock, Give, Refuse, Look, Where, Next, Pick, Bind, Fits, Call, Loop}
 use Rattle.c_grammar.specs.Grammar.{read}
 use Rattle.c_grammar.proofs.Loops.{Shrinks}
 
@@ -19,6 +20,7 @@ abbrev pub Tame : {A : Type 0} → Reader A → Type 0
 Tame (Give a) = Unit {0}
 Tame Refuse = Unit {0}
 Tame (Look f) = (x : Shape) → Tame (f x)
+Tame (Where f) = (a b : Span) → Tame (f a b)
 Tame (Next r) = Tame r
 Tame (Pick f) = Unit {0}
 Tame (Bind {B = B} r f) = Tame r × ((b : B) → Tame (f b))

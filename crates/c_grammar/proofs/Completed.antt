@@ -12,7 +12,7 @@ use Rattle.c_grammar.specs.Laws.{Agree, IsKnown, AreKnown, Reading, Source, AnyD
 use Rattle.c_grammar.specs.Laws as laws
 use Rattle.c_grammar.proofs.Sets.{anything}
 use Rattle.c_grammar.proofs.Words.{Enough, enough, known_more}
-use Rattle.c_grammar.proofs.Local.{from}
+use Rattle.c_grammar.proofs.Local.{from, Match}
 use Rattle.c_grammar.proofs.Live.{Each, Ends, Before, Continues, live}
 use Rattle.c_grammar.proofs.Alive.{Alive, tame_body, tame_item, live_body, shortest, alive_item}
 use Rattle.c_grammar.proofs.Dead.{more_texts}
@@ -29,11 +29,11 @@ abbrev loosely : List Shape → List Token
 loosely [] = []
 loosely (x ∷ u) = record { shape = x; span = record { start = 0; «end» = 0 } } ∷ loosely u
 
-in_front : (w u : List Token) (n k j : ℕ) → j < n → shape_at (front w n k ++ u) j ≡ shape_at w (k + j)
+in_front : (w u : List Token) (n k j : ℕ) → j < n → token_at (front w n k ++ u) j ≡ token_at w (k + j)
 unfolding front
 in_front w u zero k j less = absurd (omega arith)
-in_front w u (suc n) k zero less = let e : k ≡ k + 0 = omega arith in ap (shape_at w) e
-in_front w u (suc n) k (suc j) less = let e : k + 1 + j ≡ k + suc j = omega arith in in_front w u n (k + 1) j (omega arith) ∙ ap (shape_at w) e
+in_front w u (suc n) k zero less = let e : k ≡ k + 0 = omega arith in ap (token_at w) e
+in_front w u (suc n) k (suc j) less = let e : k + 1 + j ≡ k + suc j = omega arith in in_front w u n (k + 1) j (omega arith) ∙ ap (token_at w) e
 
 past_front : (w u : List Token) (n k m : ℕ) → shape_at (front w n k ++ u) (n + m) ≡ shape_at u m
 unfolding front
@@ -65,8 +65,11 @@ module _ (names : List (List ℕ)) (m : Option Word) (distinct : AreDistinct nam
   abbrev with_front : ℕ → List Shape → List Token
   with_front n u = front w n 0 ++ loosely u
 
+  matches : (p n : ℕ) → p < n → (u : List Shape) → Match p w (with_front n u)
+  matches p n less u j le = sym (in_front w (loosely u) n 0 j (omega arith) ∙ (let e : 0 + j ≡ j = omega arith in ap (token_at w) e))
+
   agrees : (p n : ℕ) → p < n → (u : List Shape) → Agree p w (with_front n u)
-  agrees p n less u j le = sym (in_front w (loosely u) n 0 j (omega arith) ∙ (let e : 0 + j ≡ j = omega arith in ap (shape_at w) e))
+  agrees p n less u j le = ap (λ t. t.shape) (matches p n less u j le)
 
   all_known : (n : ℕ) (u : List Shape) → Each (IsKnown all) u → AreKnown all (with_front n u)
   all_known n u h k = elim (cases_lt k n) [
@@ -100,4 +103,4 @@ module _ (names : List (List ℕ)) (m : Option Word) (distinct : AreDistinct nam
       (subst (Before p) (more_texts d names words.more w known m i) b) in
       let less : p < p + 1 = omega arith in
       let h = stand_from C.tokens (with_front (p + 1) C.tokens) (p + 1) (past_front w (loosely C.tokens) (p + 1) 0) in
-      spelled p (p + 1) less C.tokens C.usable i h.0 (C.finishes (with_front (p + 1) C.tokens) h.0 (agrees p (p + 1) less C.tokens) h.1 refl)
+      spelled p (p + 1) less C.tokens C.usable i h.0 (C.finishes (with_front (p + 1) C.tokens) h.0 (matches p (p + 1) less C.tokens) h.1 refl)

@@ -19,6 +19,7 @@ use Rattle.c_grammar.proofs.Local.{from, Same, local, onward}
 use Rattle.c_grammar.proofs.Deeper.{Deeper, deeper}
 use Rattle.c_grammar.proofs.Alive.{tame_body, tame_item}
 use Rattle.c_grammar.proofs.Items.{item_read}
+use Rattle.c_grammar.proofs.Respan.{grafted, grafted_matches, grafted_same, item_again}
 
 -- ---- more texts change nothing for the words that are known
 
@@ -87,10 +88,12 @@ module _ (d : ℕ) (names : List (List ℕ)) (m : Option Word) (w : List Token) 
   dead e V R =
       let more : List (List ℕ) = names ++ V.more in
       let refused : read d (an_item more m) (from w i) ≡ Err (Syntax k) = sym (more_texts d names V.more w known m i) ∙ e in
-      let bad : read (max d R.depth) (an_item more m) (from V.tokens i) ≡ Err (Syntax k) = refused_here V.tokens k _ _ _ refused
-      (local tame_body k w V.tokens V.agrees d (an_item more m) i (tame_item more m)) (deeper d (max d R.depth) (omega arith) (an_item more m) (from V.tokens i)) in
-      let good : read (max d R.depth) (an_item more m) (from V.tokens i) ≡ Ok (R.tree, from V.tokens R.after) =
-      item_read V.tokens (max d R.depth) more m R.depth R.tree i R.after R.spelled (omega arith) in
+      let v : List Token = grafted k w V.tokens in
+      let A = item_again V.tokens v (grafted_same k w V.tokens V.agrees) R.depth more m R.tree i R.after R.spelled in
+      let bad : read (max d R.depth) (an_item more m) (from v i) ≡ Err (Syntax k) = refused_here v k _ _ _ refused
+      (local tame_body k w v (grafted_matches k w V.tokens) d (an_item more m) i (tame_item more m)) (deeper d (max d R.depth) (omega arith) (an_item more m) (from v i)) in
+      let good : read (max d R.depth) (an_item more m) (from v i) ≡ Ok (A.0, from v R.after) =
+      item_read v (max d R.depth) more m R.depth A.0 i R.after A.1 (omega arith) in
       absurd (cc (bad, good))
 
   -- nor has one within the limit, through one that is too deep
@@ -98,6 +101,8 @@ module _ (d : ℕ) (names : List (List ℕ)) (m : Option Word) (w : List Token) 
   too_deep e V R =
       let more : List (List ℕ) = names ++ V.more in
       let refused : read d (an_item more m) (from w i) ≡ Err (TooDeep k) = sym (more_texts d names V.more w known m i) ∙ e in
-      let bad : read d (an_item more m) (from V.tokens i) ≡ Err (TooDeep k) = deep_here V.tokens k _ _ refused (local tame_body k w V.tokens V.agrees d (an_item more m) i (tame_item more m)) in
-      let good : read d (an_item more m) (from V.tokens i) ≡ Ok (R.tree, from V.tokens R.after) = item_read V.tokens d more m R.depth R.tree i R.after R.spelled R.allowed in
+      let v : List Token = grafted k w V.tokens in
+      let A = item_again V.tokens v (grafted_same k w V.tokens V.agrees) R.depth more m R.tree i R.after R.spelled in
+      let bad : read d (an_item more m) (from v i) ≡ Err (TooDeep k) = deep_here v k _ _ refused (local tame_body k w v (grafted_matches k w V.tokens) d (an_item more m) i (tame_item more m)) in
+      let good : read d (an_item more m) (from v i) ≡ Ok (A.0, from v R.after) = item_read v d more m R.depth A.0 i R.after A.1 R.allowed in
       absurd (cc (bad, good))

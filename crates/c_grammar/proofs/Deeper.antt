@@ -3,7 +3,7 @@ use Rattle.std.proofs.Common.{◌≡◌, refl, ℕ, zero, suc, ◌+◌, ◌≤�
 use Rattle.std.proofs.lemmas.Bool.{lt-ltb}
 use borrow.Author.Tests.{ltb-true}
 use Rattle.c_grammar.specs.declared.refusal.Refusal.TheVariants.{Memory, Syntax, TooDeep}
-use Rattle.c_grammar.specs.Reader.{Input, Reader, Outcome, Turn, More, Last, Rule, Read, Give, Refuse, Look, Next, Pick, Bind, Fits, Call, Loop, run, pick, when, and_then, after, loop, kind, next}
+use Rattle.c_grammar.specs.Reader.{Input, Reader, Outcome, Turn, More, Last, Rule, Read, Give, Refuse, Look, Where, Next, Pick, Bind, Fits, Call, Loop, run, pick, when, and_then, after, loop, kind, here, before, next}
 use Rattle.c_grammar.specs.Grammar.{read, below, body}
 
 -- the second is the first, if that is not for lack of levels
@@ -47,6 +47,7 @@ module _ (B C : (n : Rule) → Input → Outcome (Read n)) (d e : ℕ) (le : d �
   deeper_run (Give a) i = refl
   deeper_run Refuse i = refl
   deeper_run (Look f) i = deeper_run (f (kind i)) i
+  deeper_run (Where f) i = deeper_run (f (before i) (here i)) i
   deeper_run (Next r) i = deeper_run r (next i)
   deeper_run (Pick f) i = same (pick (f (kind i)) i)
   deeper_run (Bind r f) i = deeper_bind (run B d r i) (run C e r i) _ _ (deeper_run r i) (λ b j. deeper_run (f b) j)

@@ -1,10 +1,10 @@
 -- What an answer says of the tokens, part by part.
-use Rattle.std.proofs.Common.{◌≡◌, refl, subst, ap, ◌∙◌, ℕ, ◌+◌, ◌<◌, nat_lt, Bool, true, false, List, Option, Some, None, Ok}
+use Rattle.std.proofs.Common.{◌≡◌, refl, subst, ap, ◌∙◌, ℕ, ◌+◌, ◌-◌, ◌<◌, nat_lt, Bool, true, false, List, Option, Some, None, Ok}
 use borrow.Author.Tests.{ltb-true}
 use Rattle.c_tokens.specs.declared.token.Token.{Token}
-use Rattle.c_grammar.specs.Reader.{Input, Reader, Outcome, Rule, Read, Give, Refuse, Look, Next, Pick, Bind, Fits, Call, Loop, pick, when}
+use Rattle.c_grammar.specs.Reader.{Input, Reader, Outcome, Rule, Read, Give, Refuse, Look, Where, Next, Pick, Bind, Fits, Call, Loop, pick, when}
 use Rattle.c_grammar.specs.Grammar.{read, below}
-use Rattle.c_grammar.specs.Reader.{shape_at}
+use Rattle.c_grammar.specs.Reader.{shape_at, span_at}
 use Rattle.c_grammar.proofs.Loops.{split, same_answer, same_place}
 use Rattle.c_grammar.proofs.Local.{from, Onward, onward}
 
@@ -13,6 +13,7 @@ abbrev pub Derives : {A : Type 0} → ((n : Rule) → ℕ → Read n → ℕ →
 Derives c d w (Give a) i x j = (a ≡ x) × (i ≡ j)
 Derives c d w Refuse i x j = ⊥
 Derives c d w (Look f) i x j = Derives c d w (f (shape_at w i)) i x j
+Derives c d w (Where f) i x j = Derives c d w (f (span_at w (i - 1)) (span_at w i)) i x j
 Derives c d w (Next r) i x j = Derives c d w r (i + 1) x j
 Derives c d w (Pick f) i x j = (f (shape_at w i) ≡ Some x) × (i + 1 ≡ j)
 Derives c d w (Bind {B = B} r f) i x j = (b : B) × ((m : ℕ) × ((read d r (from w i) ≡ Ok (b, from w m)) × (Derives c d w r i b m × Derives c d w (f b) m x j)))
@@ -38,6 +39,7 @@ pub derives : {A : Type 0} (d : ℕ) (w : List Token) (r : Reader A) (i : ℕ) (
 derives d w (Give a) i x j e = (same_answer a x (from w i) (from w j) e, ap (λ k. k.at) (same_place a x (from w i) (from w j) e))
 derives d w Refuse i x j e = absurd cc
 derives d w (Look f) i x j e = derives d w (f (shape_at w i)) i x j e
+derives d w (Where f) i x j e = derives d w (f (span_at w (i - 1)) (span_at w i)) i x j e
 derives d w (Next r) i x j e = derives d w r (i + 1) x j e
 derives d w (Pick f) i x j e = picked w (f (shape_at w i)) i j x e
 derives d w (Bind r f) i x j e =

@@ -10,11 +10,11 @@ use Rattle.c_tokens.specs.declared.token.Shape.TheVariants as s
 use Rattle.c_tokens.specs.declared.token.Key.TheVariants as key
 use Rattle.c_tokens.specs.declared.token.Punct.TheVariants as punct
 use Rattle.c_tokens.specs.declared.token.Mark.TheVariants as mark
-use Rattle.c_trees.specs.declared.tree.Exp.{Exp}
-use Rattle.c_trees.specs.declared.tree.Declaration.{Declaration}
-use Rattle.c_trees.specs.declared.tree.First.{First}
-use Rattle.c_trees.specs.declared.tree.Item.{Item}
-use Rattle.c_trees.specs.declared.tree.Item.TheVariants as item
+use Rattle.syntax_trees.specs.declared.plain.PlainExp.{PlainExp}
+use Rattle.c_trees.specs.declared.first.Declaration.{Declaration}
+use Rattle.c_trees.specs.declared.first.First.{First}
+use Rattle.c_trees.specs.declared.first.Item.{Item}
+use Rattle.c_trees.specs.declared.first.Item.TheVariants as item
 use Rattle.c_grammar.specs.declared.context.Context.{Context}
 use Rattle.c_grammar.specs.declared.context.Context.TheVariants.{InItem, InTemplate}
 use Rattle.c_grammar.specs.Words.{is_exp, text_of}
@@ -47,7 +47,7 @@ known_kind names n e = (bytes_eq-Decides (text_of names n) (codes "exp")).0 e
 
 module _ (d : ℕ) (w : List Token) where
   -- an expression of a place, up to a token that does not go on with it
-  whole : (c : Context) (least h : ℕ) (t : Exp) (i j : ℕ) → h ≤ d → 0 < least → binds (shape_at w j) ≡ 0 → Spells h w c least t i j
+  whole : (c : Context) (least h : ℕ) (t : PlainExp) (i j : ℕ) → h ≤ d → 0 < least → binds (shape_at w j) ≡ 0 → Spells h w c least t i j
       → (R : Reaches d c least h w i t j) × (read d (expression c least) (from w i) ≡ Ok ((t, R.height), from w j))
   whole c least h t i j le some stop S =
       let R : Reaches d c least h w i t j = complete w h d c least least t i j le some (omega arith) (omega arith) S in
@@ -76,7 +76,7 @@ module _ (d : ℕ) (w : List Token) where
       rw (S.0, S.1.0, bound_read names kind binder (i + 1 + 1) R.middle known R.front, R.back.0, R.back.1.0, R.back.1.1)
 
 module _ (w : List Token) where
-  quote_read : (d : ℕ) (x : Word) (h : ℕ) (t : Exp) (i last : ℕ) → suc h ≤ d → shape_at w i ≡ s.Mark mark.QuoteParen → Spells h w (InTemplate x) 1 t (i + 1) last
+  quote_read : (d : ℕ) (x : Word) (h : ℕ) (t : PlainExp) (i last : ℕ) → suc h ≤ d → shape_at w i ≡ s.Mark mark.QuoteParen → Spells h w (InTemplate x) 1 t (i + 1) last
       → shape_at w last ≡ s.Punct punct.RightParen → read d (quote x) (from w i) ≡ Ok (t, from w (last + 1))
   unfolding quote quoted
   quote_read d x h t i last le opens S closes =
@@ -84,7 +84,7 @@ module _ (w : List Token) where
       let deep : below d (Expression (InTemplate x) 1) (from w (i + 1)) ≡ Ok ((t, V.0.height), from w last) = one_level d (Expression (InTemplate x) 1) (from w (i + 1)) (omega arith) ∙ V.1 in
       rw (opens, lt-ltb 0 d (omega arith), deep, closes)
 
-  meta_block_read : (d : ℕ) (x : Word) (h : ℕ) (t : Exp) (i last j : ℕ) → suc h ≤ d → shape_at w i ≡ s.Key key.Return → shape_at w (i + 1) ≡ s.Mark mark.QuoteParen
+  meta_block_read : (d : ℕ) (x : Word) (h : ℕ) (t : PlainExp) (i last j : ℕ) → suc h ≤ d → shape_at w i ≡ s.Key key.Return → shape_at w (i + 1) ≡ s.Mark mark.QuoteParen
       → Spells h w (InTemplate x) 1 t (i + 1 + 1) last → Stand (s.Punct punct.RightParen ∷ s.Punct punct.Semicolon ∷ s.Punct punct.RightBrace ∷ []) w last j
       → read d (meta_block x) (from w i) ≡ Ok (t, from w j)
   unfolding meta_block
@@ -92,7 +92,7 @@ module _ (w : List Token) where
       let template : read d (quote x) (from w (i + 1)) ≡ Ok (t, from w (last + 1)) = quote_read d x h t (i + 1) last le opens S ends.0 in
       rw (begins, template, ends.1.0, ends.1.1.0, ends.1.1.1)
 
-  block_read : (d : ℕ) (x : Word) (h : ℕ) (t : Exp) (i last j : ℕ) → h + 2 ≤ d → shape_at w i ≡ s.Punct punct.LeftBrace → shape_at w (i + 1) ≡ s.Key key.Return → shape_at w (i + 1 + 1) ≡ s.Mark mark.QuoteParen
+  block_read : (d : ℕ) (x : Word) (h : ℕ) (t : PlainExp) (i last j : ℕ) → h + 2 ≤ d → shape_at w i ≡ s.Punct punct.LeftBrace → shape_at w (i + 1) ≡ s.Key key.Return → shape_at w (i + 1 + 1) ≡ s.Mark mark.QuoteParen
       → Spells h w (InTemplate x) 1 t (i + 1 + 1 + 1) last → Stand (s.Punct punct.RightParen ∷ s.Punct punct.Semicolon ∷ s.Punct punct.RightBrace ∷ []) w last j
       → read d (block x) (from w i) ≡ Ok (t, from w j)
   unfolding block

@@ -1,4 +1,5 @@
 pub mod Sets
+pub mod LevelViews
 pub mod Words
 pub mod Loops
 pub mod Bounds
@@ -17,10 +18,12 @@ pub mod Complete
 pub mod Items
 pub mod Derives
 pub mod Raise
+pub mod Respan
 pub mod Sound
 pub mod Unique
 pub mod SoundItems
 pub mod Growth
 pub mod Worked
 pub mod Named
+pub mod Heights
 pub mod Lexed

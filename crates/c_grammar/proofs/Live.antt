@@ -1,7 +1,8 @@
 -- Each prefix that is taken can be completed.
-use Rattle.std.proofs.Common.{◌≡◌, inl, inr, refl, subst, ap, sym, ◌∙◌, ℕ, zero, suc, ◌+◌, ◌<◌, ◌≤◌, max, nat_lt, Bool, true, false, List, [], ◌∷◌, ◌++◌, length, Option, Some, None, Ok, Err, arith}
+use Rattle.std.proofs.Common.{◌≡◌, inl, inr, refl, subst, ap, sym, ◌∙◌, ℕ, zero, suc, ◌+◌, ◌-◌, ◌<◌, ◌≤◌, max, nat_lt, Bool, true, false, List, [], ◌∷◌, ◌++◌, length, Option, Some, None, Ok, Err, arith}
 use Rattle.std.proofs.lemmas.Bool.{cases_lt, lt-ltb}
 use borrow.Author.Tests.{ltb-true}
+use Rattle.c_tokens.specs.declared.span.Span.{Span}
 use Rattle.c_tokens.specs.declared.token.Shape.{Shape}
 use Rattle.c_tokens.specs.declared.token.Shape.TheVariants as s
 use Rattle.c_grammar.specs.declared.context.Context.{Context}
@@ -10,14 +11,13 @@ use Rattle.c_tokens.specs.declared.token.Token.{Token}
 use Rattle.c_grammar.specs.Grammar.{binds}
 use Rattle.c_grammar.proofs.Sets.{Tokens}
 use Rattle.c_grammar.specs.declared.refusal.Refusal.TheVariants.{Memory, Syntax, TooDeep}
-use Rattle.c_grammar.specs.Reader.{Input, Reader, Outcome, Turn, More, Last, Rule, Expression, MetaBlock, Give, Refuse, Look, Next, Pick, Bind, Fits, Call, Loop, pick, when, and_then, after, loop}
+use Rattle.c_grammar.specs.Reader.{Input, Reader, Outcome, Turn, More, Last, Rule, Expression, MetaBlock, Give, Refuse, Look, Where, Next, Pick, Bind, Fits, Call, Loop, pick, when, and_then, after, loop}
 use Rattle.c_grammar.specs.Grammar.{read, below, body}
-use Rattle.c_grammar.specs.Reader.{shape_at}
+use Rattle.c_grammar.specs.Reader.{shape_at, span_at}
 use Rattle.c_grammar.specs.Spells.{Stand}
 use Rattle.c_grammar.proofs.Bounds.{Good, Bounded, Tame}
 use Rattle.c_grammar.proofs.Repeats.{goes_on, ends_with}
-use Rattle.c_grammar.proofs.Local.{from, Same, local, Onward, onward}
-use Rattle.c_grammar.specs.Laws.{Agree}
+use Rattle.c_grammar.proofs.Local.{from, Match, Same, local, Onward, onward}
 use Rattle.c_grammar.proofs.Deeper.{Deeper, deeper}
 
 -- what opens the phrase, or what follows where it is empty, is one of these
@@ -86,6 +86,7 @@ abbrev pub Live : (K : Shape → Type 0) → {A : Type 0} → ℕ → Tokens →
 Live K deep Q (Give a) = Unit {0}
 Live K deep Q Refuse = Unit {0}
 Live K deep Q (Look f) = (x : Shape) → Live K deep Q (f x)
+Live K deep Q (Where f) = (a b : Span) → Live K deep Q (f a b)
 Live K deep Q (Next r) = Phrase K Q r × Live K deep Q r
 Live K deep Q (Pick f) = Unit {0}
 Live K deep Q (Bind {B = B} r f) = (P : Tokens) × (Live K deep P r × (Way K P Q f × ((b : B) → Yields K r b → Live K deep Q (f b))))
@@ -104,7 +105,7 @@ Before p (Err (TooDeep k)) = p ≤ k
 pub record Continues (K : Shape → Type 0) {A : Type 0} (Q : Tokens) (r : Reader A) (w : List Token) (i p : ℕ) : Type 0 where
   pub tokens : List Shape
   pub usable : Each K tokens
-  pub finishes : (v : List Token) (j : ℕ) → Agree p w v → Stand tokens v (p + 1) j → Q (shape_at v j) ≡ true → Ends r v i j
+  pub finishes : (v : List Token) (j : ℕ) → Match p w v → Stand tokens v (p + 1) j → Q (shape_at v j) ≡ true → Ends r v i j
 
 -- ---- putting readings together
 
@@ -161,7 +162,7 @@ settled k v o q a m w e le h = (rw e at h) le
 
 module _ (K : Shape → Type 0) (tame : (n : Rule) → Good n → Tame (body n)) (bodies : (n : Rule) → Good n → Usable K n → Live K (needs n) (following n) (body n)) where
   -- what was read of w is read of what agrees with it
-  already : {A : Type 0} (d : ℕ) (r : Reader A) (w v : List Token) (p i m : ℕ) (a : A) → Tame r → read d r (from w i) ≡ Ok (a, from w m) → m ≤ p → Agree p w v → read d r (from v i) ≡ Ok (a, from v m)
+  already : {A : Type 0} (d : ℕ) (r : Reader A) (w v : List Token) (p i m : ℕ) (a : A) → Tame r → read d r (from w i) ≡ Ok (a, from w m) → m ≤ p → Match p w v → read d r (from v i) ≡ Ok (a, from v m)
   already d r w v p i m a T e le agree = settled p v _ _ a m w e le (local tame p w v agree d r i T)
 
   after_first : {A B : Type 0} (Q : Tokens) (d : ℕ) (r : Reader B) (f : B → Reader A) (w : List Token) (i m p : ℕ) (b : B) → Tame r → read d r (from w i) ≡ Ok (b, from w m) → m ≤ p
@@ -252,7 +253,19 @@ module _ (K : Shape → Type 0) (tame : (n : Rule) → Good n → Tame (body n))
     finishes = λ v j agree here q. let E : Ends (f (shape_at w i)) v i j = C.finishes v j agree here q in record {
       levels = E.levels;
       value = E.value;
-      reads = subst (λ x. read E.levels (f x) (from v i) ≡ Ok (E.value, from v j)) (agree i le) E.reads;
+      reads = subst (λ x. read E.levels (f x) (from v i) ≡ Ok (E.value, from v j)) (ap (λ t. t.shape) (agree i le)) E.reads;
+    };
+  }
+
+  ends_where : {A : Type 0} (Q : Tokens) (f : Span → Span → Reader A) (w : List Token) (i p : ℕ) → i ≤ p → Continues K Q (f (span_at w (i - 1)) (span_at w i)) w i p → Continues K Q (Where f) w i p
+  ends_where Q f w i p le C = record {
+    tokens = C.tokens;
+    usable = C.usable;
+    finishes = λ v j agree here q. let E : Ends (f (span_at w (i - 1)) (span_at w i)) v i j = C.finishes v j agree here q in record {
+      levels = E.levels;
+      value = E.value;
+      reads = subst (λ x. read E.levels (f x (span_at v i)) (from v i) ≡ Ok (E.value, from v j)) (ap (λ t. t.span) (agree (i - 1) (omega arith)))
+          (subst (λ x. read E.levels (f (span_at w (i - 1)) x) (from v i) ≡ Ok (E.value, from v j)) (ap (λ t. t.span) (agree i le)) E.reads);
     };
   }
 
@@ -284,7 +297,7 @@ module _ (K : Shape → Type 0) (tame : (n : Rule) → Good n → Tame (body n))
     tokens = [];
     usable = tt;
     finishes = λ v j agree here q. let at : i + 1 ≡ j = (let near : i + 1 ≡ p + 1 = omega arith in near ∙ here) in
-        let same : f (shape_at v i) ≡ Some a = ap f (sym (agree i le)) ∙ e in record { levels = 0; value = a; reads = rw (same, at) };
+        let same : f (shape_at v i) ≡ Some a = ap (λ t. f t.shape) (sym (agree i le)) ∙ e in record { levels = 0; value = a; reads = rw (same, at) };
   }
 
   before_when : {A : Type 0} (b : Bool) (o : Outcome A) (i p : ℕ) → i + 1 ≤ p → Before p (when b o i) → Before p o
@@ -304,6 +317,7 @@ module _ (K : Shape → Type 0) (tame : (n : Rule) → Good n → Tame (body n))
     live_run (Give a) deep Q T L D i le b = absurd (omega arith)
     live_run Refuse deep Q T L D i le b = absurd (omega arith)
     live_run (Look f) deep Q T L D i le b = ends_look Q f w i p le (live_run (f (shape_at w i)) deep Q (T (shape_at w i)) (L (shape_at w i)) D i le b)
+    live_run (Where f) deep Q T L D i le b = ends_where Q f w i p le (live_run (f (span_at w (i - 1)) (span_at w i)) deep Q (T (span_at w (i - 1)) (span_at w i)) (L (span_at w (i - 1)) (span_at w i)) D i le b)
     live_run (Next r) deep Q T L D i le b = ends_next Q r w i p le L.0 (λ more. live_run r deep Q T L.1 D (i + 1) more b)
     live_run (Pick f) deep Q T L D i le b = ends_pick Q f w i p le (f (shape_at w i)) refl b
     live_run (Bind r f) deep Q T L D i le b = live_bind L.0 Q d r f w i p _ T.0 refl (onward d w r i) L.1.1.0

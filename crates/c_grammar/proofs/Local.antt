@@ -1,17 +1,20 @@
 -- What a reader answers depends on the tokens that it reached alone, and more levels change nothing but `TooDeep`.
-use Rattle.std.proofs.Common.{◌≡◌, inl, inr, refl, subst, ap, sym, ◌∙◌, ℕ, zero, suc, ◌+◌, ◌<◌, ◌≤◌, nat_lt, Bool, true, false, List, length, Option, Some, None, Ok, Err, arith}
+use Rattle.std.proofs.Common.{◌≡◌, inl, inr, refl, subst, ap, sym, ◌∙◌, ℕ, zero, suc, ◌+◌, ◌-◌, ◌<◌, ◌≤◌, nat_lt, Bool, true, false, List, length, Option, Some, None, Ok, Err, arith}
 use Rattle.std.proofs.lemmas.Bool.{cases_lt}
 use Rattle.c_tokens.specs.declared.token.Token.{Token}
 use Rattle.c_grammar.specs.declared.refusal.Refusal.TheVariants.{Memory, Syntax, TooDeep}
-use Rattle.c_grammar.specs.Reader.{Input, Reader, Outcome, Turn, More, Last, Rule, Read, Give, Refuse, Look, Next, Pick, Bind, Fits, Call, Loop, run, pick, when, and_then, after, loop}
+use Rattle.c_grammar.specs.Reader.{Input, Reader, Outcome, Turn, More, Last, Rule, Read, Give, Refuse, Look, Where, Next, Pick, Bind, Fits, Call, Loop, run, pick, when, and_then, after, loop}
 use Rattle.c_grammar.specs.Grammar.{read, below, body}
-use Rattle.c_grammar.specs.Reader.{shape_at}
-use Rattle.c_grammar.specs.Laws.{Agree}
+use Rattle.c_grammar.specs.Reader.{token_at, shape_at, span_at}
 use Rattle.c_grammar.proofs.Loops.{Shrinks}
 use Rattle.c_grammar.proofs.Bounds.{Good, Tame}
 
 abbrev pub from : List Token → ℕ → Input
 from w i = record { tokens = w; at = i }
+
+-- the same tokens through place k
+abbrev pub Match : ℕ → List Token → List Token → Type 0
+Match k w v = (j : ℕ) → j ≤ k → token_at w j ≡ token_at v j
 
 -- where an outcome was reached
 abbrev pub reached : {A : Type 0} → Outcome A → ℕ
@@ -65,6 +68,7 @@ onward_run : {A : Type 0} (B : (n : Rule) → Input → Outcome (Read n)) (d : �
 onward_run B d w h (Give a) i = (refl, omega arith)
 onward_run B d w h Refuse i = omega arith
 onward_run B d w h (Look f) i = onward_run B d w h (f (shape_at w i)) i
+onward_run B d w h (Where f) i = onward_run B d w h (f (span_at w (i - 1)) (span_at w i)) i
 onward_run B d w h (Next r) i = later w i (i + 1) (run B d r (from w (i + 1))) (omega arith) (onward_run B d w h r (i + 1))
 onward_run B d w h (Pick f) i = onward_pick w i (f (shape_at w i))
 onward_run B d w h (Bind r f) i = onward_bind w i (run B d r (from w i)) _ (onward_run B d w h r i) (λ b j. onward_run B d w h (f b) j)
@@ -152,19 +156,25 @@ same_loop k w v p q left right P Q on h (suc n) (suc m) s i a b = same_turn k w 
     (omega (arith, P.falls s (from w i) u (from w j) (e ∙ ap (λ y. Ok (y, from w j)) x)))
     (omega (arith, Q.falls s (from v i) u (from v j) (e' ∙ ap (λ y. Ok (y, from v j)) x)))))
 
-module _ (k : ℕ) (w v : List Token) (agree : Agree k w v) (d : ℕ)
+module _ (k : ℕ) (w v : List Token) (agree : Match k w v) (d : ℕ)
     (same : (n : Rule) (i : ℕ) → Good n → Same k v (below d n (from w i)) (below d n (from v i))) where
   same_run : {A : Type 0} (r : Reader A) (i : ℕ) → Tame r → Same k v (read d r (from w i)) (read d r (from v i))
   same_run (Give a) i T = λ _. refl
   same_run Refuse i T = λ _. refl
   same_run (Look f) i T = elim (cases_lt k i) [
     | inl far ↦ past k w v i (read d (f (shape_at w i)) (from w i)) _ far (onward d w (f (shape_at w i)) i)
-    | inr near ↦ subst (λ x. Same k v (read d (f (shape_at w i)) (from w i)) (read d (f x) (from v i))) (agree i near) (same_run (f (shape_at w i)) i (T (shape_at w i)))
+    | inr near ↦ subst (λ x. Same k v (read d (f (shape_at w i)) (from w i)) (read d (f x) (from v i))) (ap (λ t. t.shape) (agree i near)) (same_run (f (shape_at w i)) i (T (shape_at w i)))
+  ]
+  same_run (Where f) i T = elim (cases_lt k i) [
+    | inl far ↦ past k w v i (read d (f (span_at w (i - 1)) (span_at w i)) (from w i)) _ far (onward d w (f (span_at w (i - 1)) (span_at w i)) i)
+    | inr near ↦ subst (λ x. Same k v (read d (f (span_at w (i - 1)) (span_at w i)) (from w i)) (read d (f x (span_at v i)) (from v i))) (ap (λ t. t.span) (agree (i - 1) (omega arith)))
+        (subst (λ x. Same k v (read d (f (span_at w (i - 1)) (span_at w i)) (from w i)) (read d (f (span_at w (i - 1)) x) (from v i))) (ap (λ t. t.span) (agree i near))
+        (same_run (f (span_at w (i - 1)) (span_at w i)) i (T (span_at w (i - 1)) (span_at w i))))
   ]
   same_run (Next r) i T = same_run r (i + 1) T
   same_run (Pick f) i T = elim (cases_lt k i) [
     | inl far ↦ past k w v i (pick (f (shape_at w i)) (from w i)) _ far (onward_pick w i (f (shape_at w i)))
-    | inr near ↦ subst (λ x. Same k v (pick (f (shape_at w i)) (from w i)) (pick (f x) (from v i))) (agree i near) (same_pick k w v i (f (shape_at w i)))
+    | inr near ↦ subst (λ x. Same k v (pick (f (shape_at w i)) (from w i)) (pick (f x) (from v i))) (ap (λ t. t.shape) (agree i near)) (same_pick k w v i (f (shape_at w i)))
   ]
   same_run (Bind r f) i T = same_bind k w v i (read d r (from w i)) (read d r (from v i)) _ _ (onward d w r i) (same_run r i T.0)
       (λ b j. onward d w (f b) j) (λ b j. same_run (f b) j (T.1 b))
@@ -174,11 +184,11 @@ module _ (k : ℕ) (w v : List Token) (agree : Agree k w v) (d : ℕ)
       (d + length w) (d + length v) s i (T.0.few d s (from w i)) (T.0.few d s (from v i))
 
 module _ (bodies : (n : Rule) → Good n → Tame (body n)) where
-  same_below : (k : ℕ) (w v : List Token) → Agree k w v → (d : ℕ) (n : Rule) (i : ℕ) → Good n → Same k v (below d n (from w i)) (below d n (from v i))
+  same_below : (k : ℕ) (w v : List Token) → Match k w v → (d : ℕ) (n : Rule) (i : ℕ) → Good n → Same k v (below d n (from w i)) (below d n (from v i))
   unfolding below
   same_below k w v a zero n i good = λ _. refl
   same_below k w v a (suc d) n i good = same_run k w v a d (same_below k w v a d) (body n) i (bodies n good)
 
   -- a refusal depends on the tokens through the refused one alone
-  pub local : {A : Type 0} (k : ℕ) (w v : List Token) → Agree k w v → (d : ℕ) (r : Reader A) (i : ℕ) → Tame r → Same k v (read d r (from w i)) (read d r (from v i))
+  pub local : {A : Type 0} (k : ℕ) (w v : List Token) → Match k w v → (d : ℕ) (r : Reader A) (i : ℕ) → Tame r → Same k v (read d r (from w i)) (read d r (from v i))
   local k w v a d r i T = same_run k w v a d (same_below k w v a d) r i T

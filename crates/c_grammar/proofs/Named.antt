@@ -1,93 +1,72 @@
--- The words of a tree that is spelled are words of the tokens, and which extension nodes it has is said by where it stands.
-use Rattle.std.proofs.Common.{◌≡◌, inl, inr, refl, subst, sym, ◌∙◌, ℕ, zero, suc, ◌+◌, Bool, true, List, Option, Some, None}
+-- An expression that is spelled has the forms that are read, and its words are words of the tokens.
+use Rattle.std.proofs.Common.{◌≡◌, inl, inr, refl, subst, ap, sym, ◌∙◌, ℕ, zero, suc, ◌+◌, Bool, true, false, List, Option, Some, None}
 use Rattle.c_tokens.specs.declared.token.Word.{Word}
 use Rattle.c_tokens.specs.declared.token.Shape.TheVariants as s
 use Rattle.c_tokens.specs.declared.token.Token.{Token}
-use Rattle.c_trees.specs.Levels.{Layer}
-use Rattle.c_trees.specs.Named.{is_named, is_named_at, is_named_declaration, names_word, names_integer}
-use Rattle.c_trees.specs.Parts.{is_call_free, is_call_free_at, is_hole_free, is_hole_free_at}
-use Rattle.c_trees.specs.declared.tree.Declaration.{Declaration}
-use Rattle.c_trees.specs.declared.tree.First.{First}
-use Rattle.c_trees.specs.declared.tree.Exp.{Exp, out-Exp, roll-Exp, roll-out-Exp}
-use Rattle.c_trees.specs.declared.tree.Exp.TheOpen.{Exp-F}
-use Rattle.c_trees.specs.declared.tree.Exp.TheFolds.{fold-roll-Exp}
-use Rattle.c_trees.proofs.Parts.{both}
+use Rattle.syntax_trees.specs.Levels.{ExpParts}
+use Rattle.syntax_trees.specs.declared.plain.PlainExp.{PlainExp, PlainExp-F, out-PlainExp, roll-PlainExp, roll-out-PlainExp}
+use Rattle.syntax_trees.specs.declared.plain.PlainExp.TheVariants as e
+use Rattle.syntax_trees.specs.declared.plain.PlainArgument.TheViews.{rolls-Name, rolls-Int, rolls-Binary, rolls-ExpHole, rolls-ExpCall}
+use Rattle.c_trees.specs.Built.{Built, a_name, a_constant, an_operation, a_hole, a_call}
+use Rattle.c_trees.specs.Calls.{first_call, first_place}
+use Rattle.syntax_trees.specs.declared.parts.Hole.{Hole}
+use Rattle.c_trees.specs.Named.{names_word, names_integer}
+use Rattle.c_trees.specs.declared.first.Declaration.{Declaration}
+use Rattle.c_trees.specs.declared.first.First.{First}
 use Rattle.c_grammar.specs.declared.context.Context.{Context}
 use Rattle.c_grammar.specs.declared.context.Context.TheVariants.{InItem, InArgument, InTemplate}
-use Rattle.c_grammar.specs.Words.{callee, binder}
-use Rattle.c_grammar.specs.Reader.{shape_at}
-use Rattle.c_grammar.specs.Spells.{Spells, Spelling, Node, SpellsDeclaration, SpellsDefinition}
+use Rattle.c_grammar.specs.Words.{callee, binder, has_holes, has_calls}
+use Rattle.c_grammar.specs.Reader.{shape_at, span_at}
+use Rattle.c_grammar.specs.Spells.{Spells, Spelling, Node, SpellsDeclaration, SpellsDefinition, span_from}
 use Rattle.c_grammar.specs.Laws.{IsKnown, AreKnown}
-
-abbrev nothing : Spelling
-nothing c least t i j = ⊥
-
--- ---- words and constants
+use Rattle.c_grammar.proofs.Raise.{nothing}
 
 module _ (names : List (List ℕ)) (w : List Token) (known : AreKnown names w) where
-  word_at : (i : ℕ) (n : Word) → shape_at w i ≡ s.Word n → names_word names n ≡ true
+  pub word_at : (i : ℕ) (n : Word) → shape_at w i ≡ s.Word n → names_word names n ≡ true
   word_at i n e = subst (IsKnown names) e (known i)
 
   int_at : (i : ℕ) (n : Word) → shape_at w i ≡ s.Int n → names_integer names n ≡ true
   int_at i n e = subst (IsKnown names) e (known i)
 
-  named_node : (L : Type 0) (B : Spelling) → ((c : Context) (least : ℕ) (t : Exp) (i j : ℕ) → B c least t i j → is_named names t ≡ true)
-      → (c : Context) (least : ℕ) (l : Layer) (i j : ℕ) → Node L B w c least l i j → is_named names (roll-Exp l) ≡ true
-  named_node L B h c least (Exp-F.Name n) i j S = fold-roll-Exp Bool (is_named_at names) (Exp-F.Name n) ∙ word_at i n S.1.0
-  named_node L B h c least (Exp-F.Int n) i j S = fold-roll-Exp Bool (is_named_at names) (Exp-F.Int n) ∙ int_at i n S.0
-  named_node L B h c least (Exp-F.Binary operator a b) i j S = fold-roll-Exp Bool (is_named_at names) (Exp-F.Binary operator a b)
-      ∙ both _ _ (h _ _ a _ _ S.1.first) (h _ _ b _ _ S.1.second)
-  named_node L B h c least (Exp-F.Call a) i j S = fold-roll-Exp Bool (is_named_at names) (Exp-F.Call a) ∙ h _ _ a _ _ S.follows.within
-  named_node L B h c least Exp-F.Hole i j S = fold-roll-Exp Bool (is_named_at names) Exp-F.Hole
+  -- an expression where it stands
+  abbrev pub IsBuilt : Context → PlainExp → Type 0
+  IsBuilt c t = Built (Some names) (has_holes c) (has_calls c) t
 
-  pub named : (d : ℕ) (c : Context) (least : ℕ) (t : Exp) (i j : ℕ) → Spells d w c least t i j → is_named names t ≡ true
+  called : (c : Context) (m : Word) (a t : PlainExp) (i j k : ℕ) → callee c ≡ Some m → IsBuilt (InArgument m) a → t ≡ first_call a (span_from w (i + 2) k) (span_from w i j) → IsBuilt c t
+  called (InItem (Some k)) m a t i j l known A e = a_call a (span_from w (i + 2) l) (span_from w i j) refl A e
+  called (InItem None) m a t i j l known A e = absurd (cc known)
+  called (InArgument k) m a t i j l known A e = absurd (cc known)
+  called (InTemplate x) m a t i j l known A e = absurd (cc known)
+
+  placed : (c : Context) (x : Word) (t : PlainExp) (hole : Hole) (i j : ℕ) → binder c ≡ Some x → hole ≡ first_place (span_from w i j) → t ≡ e.ExpHole hole → IsBuilt c t
+  placed (InItem m) x t hole i j known q e = absurd (cc known)
+  placed (InArgument m) x t hole i j known q e = absurd (cc known)
+  placed (InTemplate y) x t hole i j known q q' = a_hole (span_from w i j) refl (q' ∙ ap e.ExpHole q)
+
+  node_built : (L : Type 0) (B : Spelling) → ((c : Context) (least : ℕ) (t : PlainExp) (i j : ℕ) → B c least t i j → IsBuilt c t)
+      → (c : Context) (least : ℕ) (l : ExpParts) (i j : ℕ) → Node L B w c least l i j → IsBuilt c (roll-PlainExp l)
+  node_built L B h c least (PlainExp-F.Name n span) i j (free, (S, at)) = a_name n span (word_at i n S.0) (rolls-Name n span)
+  node_built L B h c least (PlainExp-F.Int n span) i j (S, at) = a_constant n span (int_at i n S.0) (rolls-Int n span)
+  node_built L B h c least (PlainExp-F.Binary operator a b span) i j (taken, (tight, (S, at))) =
+      an_operation operator a b span taken (h c _ a _ _ S.first) (h c _ b _ _ S.second) (rolls-Binary operator a b span)
+  node_built L B h c least (PlainExp-F.ExpCall call) i j S =
+      called c S.macro S.value (roll-PlainExp (PlainExp-F.ExpCall call)) i j S.follows.last S.known (h (InArgument S.macro) 2 S.value _ _ S.follows.within) (rolls-ExpCall call ∙ ap e.ExpCall S.built)
+  node_built L B h c least (PlainExp-F.ExpHole hole) i j (left, P) = placed c P.name (roll-PlainExp (PlainExp-F.ExpHole hole)) hole i j P.known P.built (rolls-ExpHole hole)
+  node_built L B h c least _ i j S = absurd S
+
+  pub built : (d : ℕ) (c : Context) (least : ℕ) (t : PlainExp) (i j : ℕ) → Spells d w c least t i j → IsBuilt c t
   unfolding Spells
-  named zero c least t i j S = rw roll-out-Exp at (named_node ⊥ nothing (λ _ _ _ _ _ x. absurd x) c least (out-Exp t) i j S)
-  named (suc d) c least t i j (inl S) = rw roll-out-Exp at (named_node (Unit {0}) (Spells d w) (named d) c least (out-Exp t) i j S)
-  named (suc d) c least t i j (inr W) = named d c 1 t (i + 1) W.last W.within
+  built zero c least t i j S = rw roll-out-PlainExp at (node_built ⊥ nothing (λ _ _ _ _ _ x. absurd x) c least (out-PlainExp t) i j S)
+  built (suc d) c least t i j (inl S) = rw roll-out-PlainExp at (node_built (Unit {0}) (Spells d w) (built d) c least (out-PlainExp t) i j S)
+  built (suc d) c least t i j (inr W) = built d c 1 t (i + 1) W.last W.within
 
-  pub named_declaration : (d : ℕ) (m : Option Word) (t : Declaration) (i j : ℕ) → SpellsDeclaration d w m t i j → is_named_declaration names t ≡ true
-  named_declaration d m t i j S = both _ _ (word_at (i + 1) t.name S.begins.1.0) (named d (InItem m) 2 t.value (i + 3) S.last S.value)
+  -- the value of a declaration
+  pub built_value : (d : ℕ) (m : Option Word) (t : Declaration) (i j : ℕ) → SpellsDeclaration d w m t i j → IsBuilt (InItem m) t.value
+  built_value d m t i j S = built d (InItem m) 2 t.value (i + 3) S.last S.value
 
-  pub named_template : (d : ℕ) (t : First) (i j : ℕ) → SpellsDefinition d w names t i j → is_named names t.template ≡ true
-  named_template d t i j S = named S.inner (InTemplate t.binder) 1 t.template (i + 15) S.last S.template
+  pub named_declaration : (d : ℕ) (m : Option Word) (t : Declaration) (i j : ℕ) → SpellsDeclaration d w m t i j → names_word names t.name ≡ true
+  named_declaration d m t i j S = word_at (i + 1) t.name S.begins.1.0
 
--- ---- calls and placeholders
-
-abbrev Absent : Option Word → Type 0
-Absent o = o ≡ None
-
-module _ (w : List Token) where
-  call_free_node : (c : Context) → Absent (callee c) → (L : Type 0) (B : Spelling) → ((least : ℕ) (t : Exp) (i j : ℕ) → B c least t i j → is_call_free t ≡ true)
-      → (least : ℕ) (l : Layer) (i j : ℕ) → Node L B w c least l i j → is_call_free (roll-Exp l) ≡ true
-  unfolding is_call_free
-  call_free_node c none L B h least (Exp-F.Name n) i j S = fold-roll-Exp Bool is_call_free_at (Exp-F.Name n)
-  call_free_node c none L B h least (Exp-F.Int n) i j S = fold-roll-Exp Bool is_call_free_at (Exp-F.Int n)
-  call_free_node c none L B h least (Exp-F.Binary operator a b) i j S = fold-roll-Exp Bool is_call_free_at (Exp-F.Binary operator a b)
-      ∙ both _ _ (h _ a _ _ S.1.first) (h _ b _ _ S.1.second)
-  call_free_node c none L B h least (Exp-F.Call a) i j S = absurd (let e : None ≡ Some S.macro = sym none ∙ S.known in cc e)
-  call_free_node c none L B h least Exp-F.Hole i j S = fold-roll-Exp Bool is_call_free_at Exp-F.Hole
-
-  -- where no macro may be called none is
-  pub call_free : (c : Context) → Absent (callee c) → (d least : ℕ) (t : Exp) (i j : ℕ) → Spells d w c least t i j → is_call_free t ≡ true
-  unfolding Spells
-  call_free c none zero least t i j S = rw roll-out-Exp at (call_free_node c none ⊥ nothing (λ _ _ _ _ x. absurd x) least (out-Exp t) i j S)
-  call_free c none (suc d) least t i j (inl S) = rw roll-out-Exp at (call_free_node c none (Unit {0}) (Spells d w) (call_free c none d) least (out-Exp t) i j S)
-  call_free c none (suc d) least t i j (inr W) = call_free c none d 1 t (i + 1) W.last W.within
-
-  hole_free_node : (L : Type 0) (B : Spelling) → ((c : Context) → Absent (binder c) → (least : ℕ) (t : Exp) (i j : ℕ) → B c least t i j → is_hole_free t ≡ true)
-      → (c : Context) → Absent (binder c) → (least : ℕ) (l : Layer) (i j : ℕ) → Node L B w c least l i j → is_hole_free (roll-Exp l) ≡ true
-  unfolding is_hole_free
-  hole_free_node L B h c none least (Exp-F.Name n) i j S = fold-roll-Exp Bool is_hole_free_at (Exp-F.Name n)
-  hole_free_node L B h c none least (Exp-F.Int n) i j S = fold-roll-Exp Bool is_hole_free_at (Exp-F.Int n)
-  hole_free_node L B h c none least (Exp-F.Binary operator a b) i j S = fold-roll-Exp Bool is_hole_free_at (Exp-F.Binary operator a b)
-      ∙ both _ _ (h c none _ a _ _ S.1.first) (h c none _ b _ _ S.1.second)
-  hole_free_node L B h c none least (Exp-F.Call a) i j S = fold-roll-Exp Bool is_hole_free_at (Exp-F.Call a) ∙ h (InArgument S.macro) refl _ a _ _ S.follows.within
-  hole_free_node L B h c none least Exp-F.Hole i j S = absurd (let e : None ≡ Some S.1.name = sym none ∙ S.1.known in cc e)
-
-  -- outside of a template there is no placeholder
-  pub hole_free : (d : ℕ) (c : Context) → Absent (binder c) → (least : ℕ) (t : Exp) (i j : ℕ) → Spells d w c least t i j → is_hole_free t ≡ true
-  unfolding Spells
-  hole_free zero c none least t i j S = rw roll-out-Exp at (hole_free_node ⊥ nothing (λ _ _ _ _ _ _ x. absurd x) c none least (out-Exp t) i j S)
-  hole_free (suc d) c none least t i j (inl S) = rw roll-out-Exp at (hole_free_node (Unit {0}) (Spells d w) (hole_free d) c none least (out-Exp t) i j S)
-  hole_free (suc d) c none least t i j (inr W) = hole_free d c none 1 t (i + 1) W.last W.within
+  -- and the template of a macro
+  pub built_template : (d : ℕ) (t : First) (i j : ℕ) → SpellsDefinition d w names t i j → Built (Some names) true false t.template
+  built_template d t i j S = built S.inner (InTemplate t.binder) 1 t.template (i + 15) S.last S.template

@@ -8,8 +8,8 @@ use Rattle.c_tokens.specs.declared.token.Shape.TheVariants as s
 use Rattle.c_tokens.specs.declared.token.Key.TheVariants as key
 use Rattle.c_tokens.specs.declared.token.Punct.TheVariants as punct
 use Rattle.c_tokens.specs.declared.token.Mark.TheVariants as mark
-use Rattle.c_trees.specs.declared.tree.Exp.{Exp}
-use Rattle.c_trees.specs.declared.tree.Item.{Item}
+use Rattle.syntax_trees.specs.declared.plain.PlainExp.{PlainExp}
+use Rattle.c_trees.specs.declared.first.Item.{Item}
 use Rattle.c_grammar.specs.declared.context.Context.{Context}
 use Rattle.c_grammar.specs.declared.context.Context.TheVariants.{InItem, InTemplate}
 use Rattle.c_grammar.specs.Words.{is_identifier, text_of}
@@ -120,7 +120,7 @@ long [] w i j S = omega arith
 long (x ∷ u) w i j S = let e : j ≡ i + 1 + length u = long u w (i + 1) j S.1 in omega arith
 
 -- a template of a depth below `top` between two rows of tokens
-record Quoted (front : List Shape) (x : Word) (back : List Shape) (top : ℕ) (t : Exp) (w : List Token) (i j : ℕ) : Type 0 where
+record Quoted (front : List Shape) (x : Word) (back : List Shape) (top : ℕ) (t : PlainExp) (w : List Token) (i j : ℕ) : Type 0 where
   inner : ℕ
   deep : inner < top
   start : ℕ
@@ -204,7 +204,7 @@ module _ (w : List Token) where
         row = taken is_pattern_open (s.Mark mark.PatternOpen) pattern_open i u open_at (taken is_opening (s.Punct punct.LeftParen) opening a u1 paren_at (append B.row back));
       })
 
-  quoted_at : (d : ℕ) (x : Word) (i : ℕ) (t : Exp) (j : ℕ) → shape_at w i ≡ s.Mark mark.QuoteParen → Derives (Called d w) d w (quoted x) (i + 1) t j → Quoted quote_front x quote_back d t w i j
+  quoted_at : (d : ℕ) (x : Word) (i : ℕ) (t : PlainExp) (j : ℕ) → shape_at w i ≡ s.Mark mark.QuoteParen → Derives (Called d w) d w (quoted x) (i + 1) t j → Quoted quote_front x quote_back d t w i j
   unfolding quoted
   quoted_at d x i t j opens (v, (k, (called, (_, (u, (l, (_, (closing_at, (same, end))))))))) =
       let S : Sound d (InTemplate x) 1 w (i + 1) v (from w k) = sound_below d w (InTemplate x) 1 (i + 1) v (from w k) (omega arith) (omega arith) called in
@@ -219,11 +219,11 @@ module _ (w : List Token) where
         ends = taken is_closing (s.Punct punct.RightParen) closing k u closing_at (nothing end);
       })
 
-  quote_at : (d : ℕ) (x : Word) (i : ℕ) (t : Exp) (j : ℕ) (y : Shape) → shape_at w i ≡ y → Derives (Called d w) d w (quote_by x y) i t j → Quoted quote_front x quote_back d t w i j
+  quote_at : (d : ℕ) (x : Word) (i : ℕ) (t : PlainExp) (j : ℕ) (y : Shape) → shape_at w i ≡ y → Derives (Called d w) d w (quote_by x y) i t j → Quoted quote_front x quote_back d t w i j
   quote_at d x i t j (s.Mark mark.QuoteParen) q D = quoted_at d x i t j q D.1
   quote_at d x i t j _ q D = absurd D
 
-  meta_block_at : (d : ℕ) (x : Word) (i : ℕ) (t : Exp) (j : ℕ) → Derives (Called d w) d w (meta_block x) i t j → Quoted body_front x body_back d t w i j
+  meta_block_at : (d : ℕ) (x : Word) (i : ℕ) (t : PlainExp) (j : ℕ) → Derives (Called d w) d w (meta_block x) i t j → Quoted body_front x body_back d t w i j
   unfolding meta_block quote
   meta_block_at d x i t j (u, (a, (_, (return_at, (v, (b, (_, (inside, (u1, (c, (_, (semi, (u2, (e, (_, (brace, (same, end))))))))))))))))) =
       let Q : Quoted quote_front x quote_back d v w a b = quote_at d x a v b (shape_at w a) refl inside in
@@ -239,7 +239,7 @@ module _ (w : List Token) where
         ends = append Q.ends back;
       })
 
-  block_at : (d : ℕ) (x : Word) (i : ℕ) (t : Exp) (j : ℕ) (y : Shape) → shape_at w i ≡ y → Derives (Called d w) d w (block_by x y) i t j → Quoted block_front x body_back (d - 1) t w i j
+  block_at : (d : ℕ) (x : Word) (i : ℕ) (t : PlainExp) (j : ℕ) (y : Shape) → shape_at w i ≡ y → Derives (Called d w) d w (block_by x y) i t j → Quoted block_front x body_back (d - 1) t w i j
   block_at d x i t j (s.Punct punct.LeftBrace) q D =
       let Q : Quoted body_front x body_back (d - 1) t w (i + 1) j = meta_block_at (d - 1) x (i + 1) t j
       (derives (d - 1) w (meta_block x) (i + 1) t j (sym (one_level d (MetaBlock x) (from w (i + 1)) D.0) ∙ D.1)) in

@@ -2,8 +2,8 @@
 use Rattle.std.proofs.Common.{◌≡◌, ap, sym, ◌∙◌, ℕ, ◌<◌, max, List, Option, arith}
 use Rattle.c_tokens.specs.declared.token.Word.{Word}
 use Rattle.c_tokens.specs.declared.token.Token.{Token}
-use Rattle.c_trees.specs.declared.tree.Exp.{Exp}
-use Rattle.c_trees.specs.declared.tree.Item.{Item}
+use Rattle.syntax_trees.specs.declared.plain.PlainExp.{PlainExp}
+use Rattle.c_trees.specs.declared.first.Item.{Item}
 use Rattle.c_grammar.specs.declared.context.Context.{Context}
 use Rattle.c_grammar.specs.Reader.{Found, shape_at}
 use Rattle.c_grammar.specs.Grammar.{binds}
@@ -14,7 +14,7 @@ use Rattle.c_grammar.proofs.Complete.{Reaches, stops, complete}
 use Rattle.c_grammar.proofs.Items.{item_read}
 
 -- two expressions of any depths from one place, each up to a token that does not go on with it, are one
-pub one_expression : (w : List Token) (c : Context) (least h k : ℕ) (t u : Exp) (i j l : ℕ) → binds (shape_at w j) < least → binds (shape_at w l) < least
+pub one_expression : (w : List Token) (c : Context) (least h k : ℕ) (t u : PlainExp) (i j l : ℕ) → binds (shape_at w j) < least → binds (shape_at w l) < least
     → Spells h w c least t i j → Spells k w c least u i l → (t ≡ u) × (j ≡ l)
 one_expression w c least h k t u i j l q r S T =
     let A : Reaches (max h k) c least h w i t j = complete w h (max h k) c least least t i j (omega arith) (omega arith) (omega arith) (omega arith) S in

@@ -20,7 +20,7 @@ use Rattle.c_tokens.specs.Literals.{starts_literal, starts_with_quote, starts_wi
 use Rattle.c_tokens.specs.Skipped.{starts_comment, starts_with_byte, starts_directive, starts_percent_colon}
 use Rattle.c_tokens.specs.Spelling.{Spelling, spelling_of, word_spelling, find_text, keywords, is_word, is_marked_word, is_word_after_at, is_number, goes_on_number, number_spelling, plain_spelling}
 use Rattle.c_trees.specs.Named.{is_word_spelling, is_integer_spelling}
-use Rattle.c_trees.proofs.Parts.{both, first_of_both, second_of_both}
+use Rattle.c_trees.proofs.Bools.{both, first_of_both, second_of_both}
 use Rattle.std.proofs.Common.{nat_lt, ◌&&◌}
 use Rattle.std.proofs.lemmas.Bool.{lt-ltb}
 use borrow.Author.Tests.{ltb-true}

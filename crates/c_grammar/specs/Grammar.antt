@@ -6,17 +6,19 @@ use Rattle.c_tokens.specs.declared.token.Shape.TheVariants as s
 use Rattle.c_tokens.specs.declared.token.Key.TheVariants as key
 use Rattle.c_tokens.specs.declared.token.Punct.TheVariants as punct
 use Rattle.c_tokens.specs.declared.token.Mark.TheVariants as mark
-use Rattle.c_trees.specs.declared.tree.BinaryOp.{BinaryOp}
-use Rattle.c_trees.specs.declared.tree.BinaryOp.TheVariants as o
-use Rattle.c_trees.specs.declared.tree.Exp.{Exp}
-use Rattle.c_trees.specs.declared.tree.Exp.TheVariants as e
-use Rattle.c_trees.specs.declared.tree.Item.{Item}
-use Rattle.c_trees.specs.declared.tree.Item.TheVariants as item
+use Rattle.c_tokens.specs.declared.span.Span.{Span}
+use Rattle.syntax_trees.specs.declared.parts.BinaryOperator.{BinaryOperator}
+use Rattle.syntax_trees.specs.declared.parts.BinaryOperator.TheVariants as o
+use Rattle.syntax_trees.specs.declared.plain.PlainExp.{PlainExp}
+use Rattle.syntax_trees.specs.declared.plain.PlainExp.TheVariants as e
+use Rattle.c_trees.specs.Calls.{first_hole, first_call}
+use Rattle.c_trees.specs.declared.first.Item.{Item}
+use Rattle.c_trees.specs.declared.first.Item.TheVariants as item
 use Rattle.c_grammar.specs.declared.context.Context.{Context}
 use Rattle.c_grammar.specs.declared.refusal.Refusal.TheVariants.{TooDeep}
 use Rattle.c_grammar.specs.Words.{is_identifier, callee, binder, is_exp}
 use Rattle.c_grammar.specs.declared.context.Context.TheVariants.{InItem, InArgument, InTemplate}
-use Rattle.c_grammar.specs.Reader.{Reader, Input, Outcome, Rule, Expression, MetaBlock, Read, Found, Turn, More, Last, Give, Refuse, Look, Next, Pick, Fits, Call, Loop, run, ◌>>=◌, choose, token, ◌>>◌}
+use Rattle.c_grammar.specs.Reader.{Reader, Input, Outcome, Rule, Expression, MetaBlock, Read, Found, Turn, More, Last, Give, Refuse, Look, Where, Next, Pick, Fits, Call, Loop, run, ◌>>=◌, choose, token, ◌>>◌, through}
 
 -- how tightly an operator binds, and 0 for any other token
 abbrev pub binds : Shape → ℕ
@@ -24,12 +26,12 @@ binds (s.Punct punct.Plus) = 12
 binds (s.Punct punct.Star) = 13
 binds _ = 0
 
-abbrev pub operator_of : Shape → BinaryOp
+abbrev pub operator_of : Shape → BinaryOperator
 operator_of (s.Punct punct.Plus) = o.Add
 operator_of _ = o.Multiply
 
-abbrev pub joined : Shape → Exp → Exp → Exp
-joined x a b = e.Binary (operator_of x) a b
+abbrev pub joined : Shape → PlainExp → PlainExp → Span → PlainExp
+joined x a b span = e.Binary (operator_of x) a b span
 
 -- ---- single tokens
 
@@ -106,24 +108,29 @@ is_named x _ = false
 
 -- ---- expressions
 
+-- After an expression in parentheses: what is made of it, of the span of its last token and of that of the closing parenthesis.
+unfoldable pub closed : (PlainExp → Span → Span → PlainExp) → Found → Reader Found
+closed make inner = Where (λ last _. token is_closing >> Where (λ close _. Give (make inner.0 last close, inner.1 + 1)))
+
+-- the expression itself
+abbrev pub itself : PlainExp → Span → Span → PlainExp
+itself t last close = t
+
+-- the call whose name has this span, and whose argument begins with this one
+abbrev pub call_from : Span → Span → PlainExp → Span → Span → PlainExp
+call_from name first t last close = first_call t (through first last) (through name close)
+
 -- after an opening parenthesis
 unfoldable pub parenthesized : Context → Reader Found
-parenthesized c = do
-  inner ← Call (Expression c 1)
-  token is_closing
-  Give (inner.0, inner.1 + 1)
+parenthesized c = Call (Expression c 1) >>= closed itself
 
 -- after the name of the macro
 unfoldable pub called : Word → Reader Found
-called m = do
-  token is_opening
-  argument ← Call (Expression (InArgument m) 2)
-  token is_closing
-  Give (e.Call argument.0, argument.1 + 1)
+called m = Where (λ name _. token is_opening >> Where (λ _ first. Call (Expression (InArgument m) 2) >>= closed (call_from name first)))
 
 -- after the sign of a placeholder
 unfoldable pub placed : Word → Reader Found
-placed x = token (is_named x) >>= λ _. Give (e.Hole, 1)
+placed x = Where (λ sign word. token (is_named x) >>= λ _. Give (first_hole (through sign word), 1))
 
 -- a word that is no identifier
 abbrev pub reserved : Option Word → Reader Found
@@ -131,7 +138,7 @@ reserved (Some m) = Fits 0 (called m)
 reserved None = Refuse
 
 abbrev pub worded : Context → Word → Reader Found
-worded c n = choose (is_identifier c n) (Next (Give (e.Name n, 0))) (reserved (callee c))
+worded c n = choose (is_identifier c n) (Where (λ _ span. Next (Give (e.Name n span, 0)))) (reserved (callee c))
 
 abbrev pub placeholder : Option Word → Reader Found
 placeholder (Some x) = Fits 0 (placed x)
@@ -139,7 +146,7 @@ placeholder None = Refuse
 
 abbrev pub primary_by : Context → Shape → Reader Found
 primary_by c (s.Word n) = worded c n
-primary_by c (s.Int n) = Next (Give (e.Int n, 0))
+primary_by c (s.Int n) = Where (λ _ span. Next (Give (e.Int n span, 0)))
 primary_by c (s.Punct punct.LeftParen) = Fits 0 (parenthesized c)
 primary_by c (s.Mark mark.Hole) = placeholder (binder c)
 primary_by c _ = Refuse
@@ -147,38 +154,38 @@ primary_by c _ = Refuse
 unfoldable pub primary : Context → Reader Found
 primary c = Look (primary_by c)
 
--- one more operator and its right operand, after the left one
-unfoldable pub longer : Context → Found → Shape → Reader Found
-longer c left x = Fits left.1 (Call (Expression c (binds x + 1)) >>= λ right. Give (joined x left.0 right.0, max left.1 right.1 + 1))
+-- one more operator and its right operand, after the left one, which begins with this span
+unfoldable pub longer : Context → Span → Found → Shape → Reader Found
+longer c first left x = Fits left.1 (Call (Expression c (binds x + 1)) >>= λ right. Where (λ last _. Give (joined x left.0 right.0 (through first last), max left.1 right.1 + 1)))
 
-abbrev pub turn : Context → ℕ → Found → Reader (Turn Found Found)
-turn c least left = Look (λ x. choose (nat_lt (binds x) least) (Give (Last left)) (longer c left x >>= λ more. Give (More more)))
+abbrev pub turn : Context → ℕ → Span → Found → Reader (Turn Found Found)
+turn c least first left = Look (λ x. choose (nat_lt (binds x) least) (Give (Last left)) (longer c first left x >>= λ more. Give (More more)))
 
 -- the rest of a chain of operators that bind as tightly as `least`
-unfoldable pub climb : Context → ℕ → Found → Reader Found
-climb c least left = Loop (turn c least) left
+unfoldable pub climb : Context → ℕ → Span → Found → Reader Found
+climb c least first left = Loop (turn c least first) left
 
 unfoldable pub expression : Context → ℕ → Reader Found
-expression c least = primary c >>= climb c least
+expression c least = Where (λ _ first. primary c >>= climb c least first)
 
 -- ---- definitions
 
 -- after the mark of a template
-unfoldable pub quoted : Word → Reader Exp
+unfoldable pub quoted : Word → Reader PlainExp
 quoted x = do
   template ← Call (Expression (InTemplate x) 1)
   token is_closing
   Give template.0
 
-abbrev pub quote_by : Word → Shape → Reader Exp
+abbrev pub quote_by : Word → Shape → Reader PlainExp
 quote_by x (s.Mark mark.QuoteParen) = Fits 0 (quoted x)
 quote_by x _ = Refuse
 
-unfoldable pub quote : Word → Reader Exp
+unfoldable pub quote : Word → Reader PlainExp
 quote x = Look (quote_by x)
 
 -- after the brace that begins it
-unfoldable pub meta_block : Word → Reader Exp
+unfoldable pub meta_block : Word → Reader PlainExp
 meta_block x = do
   token is_return
   template ← quote x
@@ -198,11 +205,11 @@ below (suc d) n i = run (below d) d (body n) i
 abbrev pub read : {A : Type 0} → ℕ → Reader A → Input → Outcome A
 read d r i = run (below d) d r i
 
-abbrev pub block_by : Word → Shape → Reader Exp
+abbrev pub block_by : Word → Shape → Reader PlainExp
 block_by x (s.Punct punct.LeftBrace) = Fits 0 (Call (MetaBlock x))
 block_by x _ = Refuse
 
-unfoldable pub block : Word → Reader Exp
+unfoldable pub block : Word → Reader PlainExp
 block x = Look (block_by x)
 
 -- `$$ exp : : name`

@@ -5,7 +5,7 @@ use Rattle.c_tokens.specs.declared.token.Token.{Token}
 use Rattle.c_tokens.specs.declared.token.Shape.{Shape}
 use Rattle.c_tokens.specs.declared.token.Shape.TheVariants as s
 use Rattle.c_trees.specs.Named.{names_word, names_integer}
-use Rattle.c_trees.specs.declared.tree.Item.{Item}
+use Rattle.c_trees.specs.declared.first.Item.{Item}
 use Rattle.c_grammar.specs.Words.{AreDistinct}
 use Rattle.c_grammar.specs.Reader.{shape_at}
 use Rattle.c_grammar.specs.Spells.{SpellsItem}

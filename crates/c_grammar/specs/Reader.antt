@@ -1,10 +1,11 @@
 -- What a parser decides, as a value.
-use Rattle.std.specs.Prelude.{◌≡◌, ◌≢◌, ℕ, zero, suc, ◌+◌, nat_lt, Bool, true, false, List, length, Option, Some, None, Result, Ok, Err, slice_index_or}
+use Rattle.std.specs.Prelude.{◌≡◌, ◌≢◌, ℕ, zero, suc, ◌+◌, ◌-◌, nat_lt, Bool, true, false, List, length, Option, Some, None, Result, Ok, Err, slice_index_or}
 use Rattle.c_tokens.specs.declared.token.Word.{Word}
 use Rattle.c_tokens.specs.declared.token.Shape.{Shape}
 use Rattle.c_tokens.specs.declared.token.Shape.TheVariants.{End}
+use Rattle.c_tokens.specs.declared.span.Span.{Span}
 use Rattle.c_tokens.specs.declared.token.Token.{Token}
-use Rattle.c_trees.specs.declared.tree.Exp.{Exp}
+use Rattle.syntax_trees.specs.declared.plain.PlainExp.{PlainExp}
 use Rattle.c_grammar.specs.declared.context.Context.{Context}
 use Rattle.c_grammar.specs.declared.refusal.Refusal.{Refusal}
 use Rattle.c_grammar.specs.declared.refusal.Refusal.TheVariants.{Memory, Syntax, TooDeep}
@@ -24,15 +25,30 @@ token_at w k = slice_index_or w k the_end
 abbrev pub shape_at : List Token → ℕ → Shape
 shape_at w k = (token_at w k).shape
 
+abbrev pub span_at : List Token → ℕ → Span
+span_at w k = (token_at w k).span
+
 abbrev pub kind : Input → Shape
 kind i = shape_at i.tokens i.at
+
+-- where the next token stands
+abbrev pub here : Input → Span
+here i = span_at i.tokens i.at
+
+-- and the one before it
+abbrev pub before : Input → Span
+before i = span_at i.tokens (i.at - 1)
+
+-- from the start of a token to the end of another
+abbrev pub through : Span → Span → Span
+through a b = record { start = a.start; «end» = b.«end» }
 
 abbrev pub next : Input → Input
 next i = record i { at = i.at + 1 }
 
 -- A tree, and its height as it is spelled.
 abbrev pub Found : Type 0
-Found = Exp × ℕ
+Found = PlainExp × ℕ
 
 -- what lies one level deeper, and is reached by a call
 pub data Rule : Type 0 where
@@ -43,7 +59,7 @@ pub data Rule : Type 0 where
 
 abbrev pub Read : Rule → Type 0
 Read (Expression c least) = Found
-Read (MetaBlock x) = Exp
+Read (MetaBlock x) = PlainExp
 
 -- a turn of a loop goes on with a state, or ends with an answer
 pub data Turn (S A : Type 0) : Type 0 where
@@ -54,6 +70,8 @@ pub data Reader : Type 0 → Type 1 where
   Give : {A : Type 0} → A → Reader A
   Refuse : {A : Type 0} → Reader A
   Look : {A : Type 0} → (Shape → Reader A) → Reader A
+  -- the spans of the token before the next one, and of the next one
+  Where : {A : Type 0} → (Span → Span → Reader A) → Reader A
   Next : {A : Type 0} → Reader A → Reader A
   -- takes a token of which something is made, and refuses any other
   Pick : {A : Type 0} → (Shape → Option A) → Reader A
@@ -92,6 +110,7 @@ abbrev pub run : {A : Type 0} → ((n : Rule) → Input → Outcome (Read n)) �
 run below d (Give a) i = Ok (a, i)
 run below d Refuse i = Err (Syntax i.at)
 run below d (Look f) i = run below d (f (kind i)) i
+run below d (Where f) i = run below d (f (before i) (here i)) i
 run below d (Next r) i = run below d r (next i)
 run below d (Pick f) i = pick (f (kind i)) i
 run below d (Bind r f) i = and_then (run below d r i) (λ a j. run below d (f a) j)

@@ -1,5 +1,5 @@
 -- What the words of an expression may be.
-use Rattle.std.specs.Prelude.{◌≡◌, ◌<◌, length, ℕ, ◌==◌, not, Bool, true, List, [], Option, Some, None, slice_index_or, codes}
+use Rattle.std.specs.Prelude.{◌≡◌, ◌<◌, length, ℕ, ◌==◌, not, Bool, true, false, List, [], Option, Some, None, slice_index_or, codes}
 use Rattle.std.specs.Str.{bytes_eq}
 use Rattle.c_tokens.specs.declared.token.Word.{Word}
 use Rattle.c_grammar.specs.declared.context.Context.{Context}
@@ -23,6 +23,19 @@ abbrev pub binder : Context → Option Word
 binder (InItem m) = None
 binder (InArgument m) = None
 binder (InTemplate x) = Some x
+
+-- whether placeholders may stand there
+abbrev pub has_holes : Context → Bool
+has_holes (InItem m) = false
+has_holes (InArgument m) = false
+has_holes (InTemplate x) = true
+
+-- and calls
+abbrev pub has_calls : Context → Bool
+has_calls (InItem None) = false
+has_calls (InItem (Some m)) = true
+has_calls (InArgument m) = false
+has_calls (InTemplate x) = false
 
 -- the text of a word, where a word's number is the place of its text
 abbrev pub text_of : List (List ℕ) → Word → List ℕ

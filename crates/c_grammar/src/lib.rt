@@ -6,5 +6,5 @@ mod levels;
 mod refusal;
 
 pub use context::Context;
-pub use levels::{level, needs_parens};
+pub use levels::{level, level_with, needs_parens};
 pub use refusal::Refusal;

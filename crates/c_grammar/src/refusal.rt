@@ -2,7 +2,7 @@
 
 ghost use Rattle.c_grammar.specs.declared.refusal.Refusal.TheVariants as variant;
 
-use std::alloc::{AllocError, AllocFailed};
+use c_tokens::Memory;
 
 /// Why the next item was not read. A number is the place of a token in the list.
 #[derive(Clone, Copy, Debug, PartialEq, Eq)]
@@ -14,13 +14,12 @@ pub enum Refusal {
     Memory,
 }
 
-impl From<AllocError> for Refusal {
+impl From<Memory> for Refusal {
     ghost use Rattle.std.specs.Prelude.{◌≡◌};
-    ghost use Rattle.c_grammar.specs.declared.refusal.Refusal.TheVariants.{Memory};
 
-    ghost from_gives = { λ _ e. e ≡ Memory };
+    ghost from_gives = { λ _ e. e ≡ variant.Memory };
 
-    fn from(_: AllocError) -> Refusal {
+    fn from(_: Memory) -> Refusal {
         Refusal::Memory
     }
 }

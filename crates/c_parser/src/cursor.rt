@@ -5,7 +5,7 @@ ghost use Rattle.c_grammar.specs.Reader as reader;
 ghost use Rattle.c_tokens.specs.declared.token.Shape.TheVariants.{End};
 
 use c_grammar::Refusal;
-use c_tokens::{Shape, Token};
+use c_tokens::{Shape, Span, Token};
 use std::marker::Model;
 
 /// Tokens, and the place of the next one. After the last token it shows the end of the source.
@@ -44,6 +44,26 @@ impl<'a> Cursor<'a> {
         match self.tokens.get(self.at) {
             Some(token) => token.shape,
             None => Shape::End,
+        }
+    }
+
+    /// Where the next token stands.
+    pub fn here(&self) -> Span
+        ensures { result ≡ reader.here self.now }
+    {
+        match self.tokens.get(self.at) {
+            Some(token) => token.span,
+            None => Span { start: 0, end: 0 },
+        }
+    }
+
+    /// Where the token before it stands.
+    pub fn before(&self) -> Span
+        ensures { result ≡ reader.before self.now }
+    {
+        match self.tokens.get(self.at.saturating_sub(1)) {
+            Some(token) => token.span,
+            None => Span { start: 0, end: 0 },
         }
     }
 

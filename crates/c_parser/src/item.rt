@@ -1,6 +1,6 @@
 //! Items of a file.
 
-ghost use Rattle.std.specs.Prelude.{◌≡◌, ◌<◌};
+ghost use Rattle.std.specs.Prelude.{◌≡◌, ◌<◌, ◌≤◌};
 ghost use Rattle.c_grammar.specs.Grammar as spec;
 ghost use Rattle.c_grammar.specs.Grammar.{read};
 ghost use Rattle.c_grammar.specs.Laws.{AreKnown};
@@ -27,6 +27,7 @@ fn quoted(
     binder: Word,
 ) -> Result<Exp, Refusal>
     requires room { 0 < depth }
+    requires depth { depth ≤ 1000 }
     ensures { Reads (read depth (spec.quoted binder) cursor.old) result cursor.new }
 {
     let (template, _height) = expression(alloc, Context::InTemplate(binder), cursor, depth - 1, 1)?;
@@ -37,6 +38,7 @@ fn quoted(
 /// A template of one expression.
 #[tactic(auto, unfolding(c_grammar::specs::Grammar::quote))]
 fn quote(alloc: Global, cursor: &mut Cursor<'_>, depth: usize, binder: Word) -> Result<Exp, Refusal>
+    requires depth { depth ≤ 1000 }
     ensures { Reads (read depth (spec.quote binder) cursor.old) result cursor.new }
 {
     match cursor.peek() {
@@ -56,6 +58,7 @@ fn meta_block(
     depth: usize,
     binder: Word,
 ) -> Result<Exp, Refusal>
+    requires depth { depth ≤ 1000 }
     ensures { Reads (read depth (spec.meta_block binder) cursor.old) result cursor.new }
 {
     cursor.take_if(is_return(cursor.peek()))?;
@@ -68,6 +71,7 @@ fn meta_block(
 /// The body of a macro.
 #[tactic(auto, using(c_grammar::proofs::Chain::levels), unfolding(c_grammar::specs::Grammar::block))]
 fn block(alloc: Global, cursor: &mut Cursor<'_>, depth: usize, binder: Word) -> Result<Exp, Refusal>
+    requires depth { depth ≤ 1000 }
     ensures { Reads (read depth (spec.block binder) cursor.old) result cursor.new }
 {
     match cursor.peek() {
@@ -116,6 +120,7 @@ fn definition(
     words: &Words,
 ) -> Result<Item, Refusal>
     requires known { AreKnown words.now cursor.old.tokens }
+    requires depth { depth ≤ 1000 }
     ensures { Reads (read depth (spec.definition words.now) cursor.old) result cursor.new }
 {
     cursor.take_if(is_result(cursor.peek()))?;
@@ -137,6 +142,7 @@ fn declaration(
     depth: usize,
     first: Option<Word>,
 ) -> Result<Item, Refusal>
+    requires depth { depth ≤ 1000 }
     ensures { Reads (read depth (spec.declaration first) cursor.old) result cursor.new }
 {
     let context = Context::InItem(first);
@@ -157,6 +163,7 @@ pub fn item(
     words: &Words,
 ) -> Result<Item, Refusal>
     requires known { AreKnown words.now cursor.old.tokens }
+    requires depth { depth ≤ 1000 }
     ensures reads { Reads (read depth (spec.an_item words.now first) cursor.old) result cursor.new }
 {
     match cursor.peek() {

@@ -1,7 +1,7 @@
 //! The next item of a list of tokens.
 
 ghost use Rattle.std.specs.Prelude.{◌≡◌, ◌≤◌, ℕ, IfOk, IfErr};
-ghost use Rattle.c_trees.specs.declared.tree.Item as tree;
+ghost use Rattle.c_trees.specs.declared.first.Item as tree;
 ghost use Rattle.c_grammar.specs.Laws.{AreKnown, IsFirstDead, IsTooDeep};
 ghost use Rattle.c_grammar.specs.Spells.{SpellsItem};
 ghost use Rattle.c_parser.specs.Answers.{Gives};

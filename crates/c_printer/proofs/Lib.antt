@@ -1,5 +1,7 @@
 pub mod Bools
 pub mod Steps
+pub mod SpelledViews
+pub mod SameForms
 pub mod Opens
 pub mod Longest
 pub mod Pieces

@@ -1,23 +1,32 @@
--- The tokens of a tree spell it.
-use Rattle.std.proofs.Common.{◌≡◌, refl, subst, sym, ◌∙◌, ℕ, zero, suc, ◌+◌, ◌≤◌, max, nat_lt, Bool, true, false, ◌&&◌, List, [], ◌∷◌, ◌++◌, None, inl, inr, arith}
+-- The tokens of a tree spell it, spans aside.
+use Rattle.std.proofs.Common.{◌≡◌, refl, subst, sym, ap, ◌∙◌, ℕ, zero, suc, ◌+◌, ◌≤◌, max, nat_lt, Bool, true, false, ◌&&◌, List, [], ◌∷◌, ◌++◌, Option, Some, None, inl, inr, arith}
 use Rattle.std.proofs.lemmas.Bool.{ltb-false}
+use Rattle.std.proofs.lemmas.Bool.Decides.{Decides-eqb}
+use Rattle.c_tokens.specs.declared.span.Span.{Span}
 use Rattle.c_tokens.specs.declared.token.Word.{Word}
 use Rattle.c_tokens.specs.declared.token.Token.{Token}
 use Rattle.c_tokens.specs.declared.token.Punct.TheVariants as punct
 use Rattle.c_tokens.specs.declared.token.Shape.{Shape}
 use Rattle.c_tokens.specs.declared.token.Shape.TheVariants as s
-use Rattle.c_trees.specs.Levels.{level_with, left_of, right_of, Layer}
-use Rattle.c_trees.specs.Pure.{is_pure, is_pure_at}
-use Rattle.c_trees.specs.declared.tree.BinaryOp.{BinaryOp}
-use Rattle.c_trees.specs.declared.tree.BinaryOp.TheVariants as o
-use Rattle.c_trees.specs.declared.tree.Exp.{Exp, roll-Exp, out-roll-Exp, map-Exp}
-use Rattle.c_trees.specs.declared.tree.Exp.TheOpen.{Exp-F}
-use Rattle.c_trees.specs.declared.tree.Exp.TheFolds.{fold-roll-Exp, ind-Exp}
+use Rattle.syntax_trees.specs.Levels.{level_with}
+use Rattle.syntax_trees.specs.declared.nodes.ExpForm.TheVariants as kExp
+use Rattle.syntax_trees.specs.declared.parts.BinaryOperator.{BinaryOperator}
+use Rattle.syntax_trees.specs.declared.parts.BinaryOperator.TheVariants as o
+use Rattle.syntax_trees.specs.declared.plain.PlainExp.{PlainExp, PlainExp-F, out-PlainExp}
+use Rattle.syntax_trees.specs.declared.plain.PlainExp.TheVariants as e
+use Rattle.syntax_trees.specs.declared.plain.PlainArgument.TheViews.{outs-Name, outs-Int, outs-Binary}
+use Rattle.same_trees.specs.Leaves.{same_binary}
+use Rattle.same_trees.specs.Same.{same_exp}
+use Rattle.c_printer.proofs.SameForms.{same_name, same_int, same_operation}
+use Rattle.c_trees.specs.Built.{Built, a_name, a_constant, an_operation, a_hole, a_call, is_read}
+use Rattle.c_trees.proofs.Bools.{both}
 use Rattle.c_grammar.specs.declared.context.Context.{Context}
 use Rattle.c_grammar.specs.declared.context.Context.TheVariants.{InItem}
-use Rattle.c_grammar.specs.Spells.{Stand, sign_of, Joins, Node, Spells}
-use Rattle.c_printer.specs.Spelled.{enclosed, spelled, spelled_at, deeper_if, depth_of, depth_at}
-use Rattle.c_printer.proofs.Bools.{and_first, and_second}
+use Rattle.c_grammar.specs.Reader.{span_at}
+use Rattle.c_grammar.specs.Spells.{Stand, sign_of, Joins, Node, Spells, Spelling, span_from}
+use Rattle.c_grammar.proofs.Raise.{nothing}
+use Rattle.c_printer.specs.Spelled.{enclosed, spelled, deeper_if, depth_of}
+use Rattle.c_printer.proofs.SpelledViews.{spelled_view, depth_view}
 
 -- two lists of tokens one after the other
 pub record Parted (u v : List Shape) (w : List Token) (i j : ℕ) : Type 0 where
@@ -34,95 +43,110 @@ parted (x ∷ u) v w i j st =
 abbrev here : Context
 here = InItem None
 
--- of any depth that is enough
-abbrev IsSpelled : List Token → Exp → Type 0
-IsSpelled w t = (place d i j : ℕ) → is_pure t ≡ true → depth_of t place ≤ d → Stand (spelled t place) w i j → Spells d w here place t i j
+-- An expression that is spelled, and is the same as another, spans aside.
+pub record Again (d : ℕ) (w : List Token) (place : ℕ) (t : PlainExp) (i j : ℕ) : Type 0 where
+  pub read : PlainExp
+  pub same : same_exp t read ≡ true
+  pub spells : Spells d w here place read i j
 
-positive : (operator : BinaryOp) → 1 ≤ level_with operator
-positive o.Add = omega arith
-positive o.Multiply = omega arith
+-- of any depth that is enough
+abbrev IsSpelled : List Token → PlainExp → Type 0
+IsSpelled w t = (place d i j : ℕ) → depth_of t place ≤ d → Stand (spelled t place) w i j → Again d w place t i j
+
+positive : (operator : BinaryOperator) → is_read operator ≡ true → 1 ≤ level_with operator
+positive o.Add h = omega arith
+positive o.Multiply h = omega arith
+positive _ h = absurd (cc h)
+
+same_operator : (operator : BinaryOperator) → is_read operator ≡ true → same_binary operator operator ≡ true
+same_operator o.Add h = refl
+same_operator o.Multiply h = refl
+same_operator _ h = absurd (cc h)
 
 module _ (w : List Token) where
-  named : (n : Word) → IsSpelled w (roll-Exp (Exp-F.Name n))
+  spells_word : (d place i j : ℕ) (n : Word) → Stand (s.Word n ∷ []) w i j → Spells d w here place (e.Name n (span_at w i)) i j
   unfolding Spells
-  named n place zero i j pure deep st =
-      let layer : Layer = Exp-F.Name n in
-      let shapes : Stand (s.Word n ∷ []) w i j = subst (λ (f : ℕ → List Shape). Stand (f place) w i j) (fold-roll-Exp (ℕ → List Shape) spelled_at layer) st in
-      subst (λ l. Node ⊥ (λ _ _ _ _ _. ⊥) w here place l i j) (sym (out-roll-Exp layer)) (refl, shapes)
-  named n place (suc d) i j pure deep st =
-      let layer : Layer = Exp-F.Name n in
-      let shapes : Stand (s.Word n ∷ []) w i j = subst (λ (f : ℕ → List Shape). Stand (f place) w i j) (fold-roll-Exp (ℕ → List Shape) spelled_at layer) st in
-      inl (subst (λ l. Node (Unit {0}) (Spells d w) w here place l i j) (sym (out-roll-Exp layer)) (refl, shapes))
+  spells_word zero place i j n st = subst (λ l. Node ⊥ nothing w here place l i j) (sym (outs-Name n (span_at w i))) (refl, (st, refl))
+  spells_word (suc d) place i j n st = inl (subst (λ l. Node (Unit {0}) (Spells d w) w here place l i j) (sym (outs-Name n (span_at w i))) (refl, (st, refl)))
 
-  constant : (n : Word) → IsSpelled w (roll-Exp (Exp-F.Int n))
+  spells_constant : (d place i j : ℕ) (n : Word) → Stand (s.Int n ∷ []) w i j → Spells d w here place (e.Int n (span_at w i)) i j
   unfolding Spells
-  constant n place zero i j pure deep st =
-      let layer : Layer = Exp-F.Int n in
-      let shapes : Stand (s.Int n ∷ []) w i j = subst (λ (f : ℕ → List Shape). Stand (f place) w i j) (fold-roll-Exp (ℕ → List Shape) spelled_at layer) st in
-      subst (λ l. Node ⊥ (λ _ _ _ _ _. ⊥) w here place l i j) (sym (out-roll-Exp layer)) shapes
-  constant n place (suc d) i j pure deep st =
-      let layer : Layer = Exp-F.Int n in
-      let shapes : Stand (s.Int n ∷ []) w i j = subst (λ (f : ℕ → List Shape). Stand (f place) w i j) (fold-roll-Exp (ℕ → List Shape) spelled_at layer) st in
-      inl (subst (λ l. Node (Unit {0}) (Spells d w) w here place l i j) (sym (out-roll-Exp layer)) shapes)
+  spells_constant zero place i j n st = subst (λ l. Node ⊥ nothing w here place l i j) (sym (outs-Int n (span_at w i))) (st, refl)
+  spells_constant (suc d) place i j n st = inl (subst (λ l. Node (Unit {0}) (Spells d w) w here place l i j) (sym (outs-Int n (span_at w i))) (st, refl))
 
-  bare : (operator : BinaryOp) (a b : Exp) → IsSpelled w a → IsSpelled w b → is_pure a ≡ true → is_pure b ≡ true
-      → (place d i j : ℕ) → place ≤ level_with operator → max (depth_of a (left_of operator)) (depth_of b (right_of operator)) + 1 ≤ d
-      → Stand (spelled a (left_of operator) ++ sign_of operator ∷ spelled b (right_of operator)) w i j
-      → Spells d w here place (roll-Exp (Exp-F.Binary operator a b)) i j
-  unfolding Spells
-  bare operator a b pa pb ha hb place zero i j fits deep st = absurd (omega arith)
-  bare operator a b pa pb ha hb place (suc d) i j fits deep st =
-      let parts = parted (spelled a (left_of operator)) (sign_of operator ∷ spelled b (right_of operator)) w i j st in
-      let joins : Joins (Spells d w here (left_of operator) a) (Spells d w here (right_of operator) b) w (sign_of operator) i j = record {
-        middle = parts.middle;
-        first = pa (left_of operator) d i parts.middle ha (omega arith) parts.first;
-        sign = parts.second.0;
-        second = pb (right_of operator) d (parts.middle + 1) j hb (omega arith) parts.second.1;
-      } in
-      inl (subst (λ layer. Node (Unit {0}) (Spells d w) w here place layer i j) (sym (out-roll-Exp (Exp-F.Binary operator a b))) (fits, joins))
+  named : (n : Word) (span : Span) → IsSpelled w (e.Name n span)
+  named n span place d i j deep st = record {
+    read = e.Name n (span_at w i);
+    same = same_name n span (span_at w i) ∙ (Decides-eqb n.0 n.0).1 refl;
+    spells = spells_word d place i j n (subst (λ u. Stand u w i j) (spelled_view (kExp.Name n span) place) st);
+  }
 
-  enclosing : (operator : BinaryOp) (a b : Exp) → IsSpelled w a → IsSpelled w b → is_pure a ≡ true → is_pure b ≡ true
-      → (place d i j : ℕ) → max (depth_of a (left_of operator)) (depth_of b (right_of operator)) + 1 + 1 ≤ d
-      → Stand (s.Punct punct.LeftParen ∷ (spelled a (left_of operator) ++ sign_of operator ∷ spelled b (right_of operator)) ++ s.Punct punct.RightParen ∷ []) w i j
-      → Spells d w here place (roll-Exp (Exp-F.Binary operator a b)) i j
-  unfolding Spells
-  enclosing operator a b pa pb ha hb place zero i j deep st = absurd (omega arith)
-  enclosing operator a b pa pb ha hb place (suc d) i j deep st =
-      let parts = parted (spelled a (left_of operator) ++ sign_of operator ∷ spelled b (right_of operator)) (s.Punct punct.RightParen ∷ []) w (i + 1) j st.1 in
-      inr (record {
-        last = parts.middle;
-        opens = st.0;
-        within = bare operator a b pa pb ha hb 1 d (i + 1) parts.middle (positive operator) (omega arith) parts.first;
-        closes = parts.second.0;
-        ends = sym parts.second.1;
-      })
+  constant : (n : Word) (span : Span) → IsSpelled w (e.Int n span)
+  constant n span place d i j deep st = record {
+    read = e.Int n (span_at w i);
+    same = same_int n span (span_at w i) ∙ (Decides-eqb n.0 n.0).1 refl;
+    spells = spells_constant d place i j n (subst (λ u. Stand u w i j) (spelled_view (kExp.Int n span) place) st);
+  }
 
-  by_level : (operator : BinaryOp) (a b : Exp) → IsSpelled w a → IsSpelled w b → is_pure a ≡ true → is_pure b ≡ true
-      → (place d i j : ℕ) (parens : Bool) → nat_lt (level_with operator) place ≡ parens
-      → deeper_if parens (max (depth_of a (left_of operator)) (depth_of b (right_of operator)) + 1) ≤ d
-      → Stand (enclosed parens (spelled a (left_of operator) ++ sign_of operator ∷ spelled b (right_of operator))) w i j
-      → Spells d w here place (roll-Exp (Exp-F.Binary operator a b)) i j
-  by_level operator a b pa pb ha hb place d i j true looser deep st = enclosing operator a b pa pb ha hb place d i j deep st
-  by_level operator a b pa pb ha hb place d i j false looser deep st = bare operator a b pa pb ha hb place d i j (ltb-false _ _ looser) deep st
+  module _ (operator : BinaryOperator) (a b : PlainExp) (span : Span) (taken : is_read operator ≡ true) (pa : IsSpelled w a) (pb : IsSpelled w b) where
+    abbrev whole : PlainExp
+    whole = e.Binary operator a b span
 
-  binary : (operator : BinaryOp) (a b : Exp) → IsSpelled w a → IsSpelled w b → IsSpelled w (roll-Exp (Exp-F.Binary operator a b))
-  binary operator a b pa pb place d i j pure deep st =
-      let layer : Layer = Exp-F.Binary operator a b in
-      let both : (is_pure a && is_pure b) ≡ true = sym (fold-roll-Exp Bool is_pure_at layer) ∙ pure in
-      let shapes = subst (λ (f : ℕ → List Shape). Stand (f place) w i j) (fold-roll-Exp (ℕ → List Shape) spelled_at layer) st in
-      let depth = subst (λ (f : ℕ → ℕ). f place ≤ d) (fold-roll-Exp (ℕ → ℕ) depth_at layer) deep in
-      by_level operator a b pa pb (and_first _ _ both) (and_second _ _ both) place d i j (nat_lt (level_with operator) place) refl depth shapes
+    abbrev level : ℕ
+    level = level_with operator
 
-  impure : (layer : Layer) → is_pure_at (map-Exp Exp Bool is_pure layer) ≡ false → IsSpelled w (roll-Exp layer)
-  impure layer e place d i j pure deep st =
-      let never : false ≡ true = sym e ∙ sym (fold-roll-Exp Bool is_pure_at layer) ∙ pure in absurd (cc)
+    abbrev inner : List Shape
+    inner = spelled a level ++ sign_of operator ∷ spelled b (level + 1)
 
-  -- The tokens of a pure expression spell it at its place.
-  pub spells : (t : Exp) → IsSpelled w t
-  spells = ind-Exp (IsSpelled w) (λ x y is. subst (λ z. IsSpelled w (roll-Exp z)) is (elim y as (λ y. IsSpelled w (roll-Exp (map-Exp _ Exp (λ e. e.0) y))) [
-    | Exp-F.Name n ↦ named n
-    | Exp-F.Int n ↦ constant n
-    | Exp-F.Binary operator a b ↦ binary operator a.0 b.0 a.1 b.1
-    | Exp-F.Call a ↦ impure (Exp-F.Call a.0) refl
-    | Exp-F.Hole ↦ impure Exp-F.Hole refl
-  ]))
+    abbrev high : ℕ
+    high = max (depth_of a level) (depth_of b (level + 1)) + 1
+
+    bare : (place d i j : ℕ) → place ≤ level → high ≤ d → Stand inner w i j → Again d w place whole i j
+    unfolding Spells
+    bare place zero i j fits deep st = absurd (omega arith)
+    bare place (suc d) i j fits deep st =
+        let parts = parted (spelled a level) (sign_of operator ∷ spelled b (level + 1)) w i j st in
+        let A = pa level d i parts.middle (omega arith) parts.first in
+        let B = pb (level + 1) d (parts.middle + 1) j (omega arith) parts.second.1 in
+        let joins : Joins (Spells d w here level A.read) (Spells d w here (level + 1) B.read) w (sign_of operator) i j = record {
+          middle = parts.middle;
+          first = A.spells;
+          sign = parts.second.0;
+          second = B.spells;
+        } in
+        record {
+          read = e.Binary operator A.read B.read (span_from w i j);
+          same = same_operation operator a b A.read B.read span (span_from w i j)
+              ∙ both _ _ (both _ _ (same_operator operator taken) A.same) B.same;
+          spells = inl (subst (λ l. Node (Unit {0}) (Spells d w) w here place l i j) (sym (outs-Binary operator A.read B.read (span_from w i j))) (taken, (fits, (joins, refl))));
+        }
+
+    enclosing : (place d i j : ℕ) → high + 1 ≤ d → Stand (s.Punct punct.LeftParen ∷ inner ++ s.Punct punct.RightParen ∷ []) w i j → Again d w place whole i j
+    unfolding Spells
+    enclosing place zero i j deep st = absurd (omega arith)
+    enclosing place (suc d) i j deep st =
+        let parts = parted inner (s.Punct punct.RightParen ∷ []) w (i + 1) j st.1 in
+        let A = bare 1 d (i + 1) parts.middle (positive operator taken) (omega arith) parts.first in
+        record {
+          read = A.read;
+          same = A.same;
+          spells = inr (record { last = parts.middle; opens = st.0; within = A.spells; closes = parts.second.0; ends = sym parts.second.1 });
+        }
+
+    by_level : (place d i j : ℕ) (parens : Bool) → nat_lt level place ≡ parens → deeper_if parens high ≤ d → Stand (enclosed parens inner) w i j → Again d w place whole i j
+    by_level place d i j true looser deep st = enclosing place d i j deep st
+    by_level place d i j false looser deep st = bare place d i j (ltb-false _ _ looser) deep st
+
+    binary : IsSpelled w whole
+    binary place d i j deep st =
+        by_level place d i j (nat_lt level place) refl
+        (subst (λ n. n ≤ d) (depth_view (kExp.Binary operator a b span) place) deep)
+        (subst (λ u. Stand u w i j) (spelled_view (kExp.Binary operator a b span) place) st)
+
+  -- The tokens of an expression of the forms that are read spell it at its place.
+  pub spells : (names : Option (List (List ℕ))) (t : PlainExp) → Built names false false t → IsSpelled w t
+  spells names t (a_name n span k q) = subst (IsSpelled w) (sym q) (named n span)
+  spells names t (a_constant n span k q) = subst (IsSpelled w) (sym q) (constant n span)
+  spells names t (an_operation operator a b span k A B q) = subst (IsSpelled w) (sym q) (binary operator a b span k (spells names a A) (spells names b B))
+  spells names t (a_hole span k q) = absurd (cc k)
+  spells names t (a_call a at span k A q) = absurd (cc k)

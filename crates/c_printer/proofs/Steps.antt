@@ -4,7 +4,7 @@ use Rattle.std.proofs.Math.Seq.{drop-cons, take-length}
 use Rattle.std.proofs.lemmas.List.{append-nil, length-drop}
 use Rattle.std.proofs.Math.ListN.{drop_of_length-le}
 use Rattle.c_tokens.specs.declared.token.Shape.{Shape}
-use Rattle.c_trees.specs.declared.tree.Declaration.{Declaration}
+use Rattle.c_trees.specs.declared.first.Declaration.{Declaration}
 use Rattle.c_printer.specs.Spelled.{spelled_declaration}
 use Rattle.c_printer.specs.Layout.{line, layout, separator}
 use Rattle.c_printer.specs.Texts.{text_of_shape}

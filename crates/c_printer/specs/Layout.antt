@@ -3,7 +3,7 @@ use Rattle.std.specs.Prelude.{ℕ, Bool, true, false, ◌||◌, if◌then◌else
 use Rattle.c_tokens.specs.declared.token.Punct.TheVariants as punct
 use Rattle.c_tokens.specs.declared.token.Shape.{Shape}
 use Rattle.c_tokens.specs.declared.token.Shape.TheVariants as s
-use Rattle.c_trees.specs.declared.tree.Declaration.{Declaration}
+use Rattle.c_trees.specs.declared.first.Declaration.{Declaration}
 use Rattle.c_printer.specs.Spelled.{spelled_declaration}
 use Rattle.c_printer.specs.Texts.{text_of_shape}
 

@@ -1,6 +1,7 @@
 //! The text of declarations.
 
-ghost use Rattle.std.specs.Prelude.{◌≡◌, IfOk};
+ghost use Rattle.std.specs.Prelude.{◌≡◌, true, false, IfOk};
+ghost use Rattle.syntax_trees.specs.Standings.{is_listed_exp};
 ghost use Rattle.c_printer.specs.Layout as layout;
 ghost use Rattle.c_printer.specs.ReadBack.{IsReadBack};
 
@@ -26,9 +27,11 @@ pub fn print(alloc: Global, items: &[Declaration], words: &Words) -> Result<Vec<
 #[cfg(test)]
 mod tests {
     use super::*;
-    use c_trees::{BinaryOp, Exp};
-    use sqlite_items::Boxed;
+    use c_tokens::Span;
+    use c_trees::{BinaryOperator, Exp, ExpForm, Node};
     use std::test::Fail;
+
+    const AT: Span = Span { start: 0, end: 0 };
 
     // each an expression with its operators before their operands, and what is printed
     const CASES: [(&str, &str); 6] = [
@@ -40,33 +43,46 @@ mod tests {
         ("a", "int a = a;\n"),
     ];
 
-    fn leaf(words: &mut Words, byte: u8) -> Result<Exp, Memory> {
+    fn leaf(alloc: Global, words: &mut Words, byte: u8) -> Result<Exp, Memory> {
         if words.len() >= 1_000 {
             return Err(Memory);
         }
         let word = words.number(&[byte])?;
         if byte.is_ascii_digit() {
-            Ok(Exp::Int(word))
+            Exp::int(alloc, word, AT)
         } else {
-            Ok(Exp::Name(word))
+            Exp::name(alloc, word, AT)
         }
     }
 
-    fn node(alloc: Global, operator: BinaryOp, rest: &mut Vec<Exp>) -> Result<Exp, Memory> {
+    /// Whether an expression is neither a placeholder nor a call.
+    #[tactic(auto, using(syntax_trees::proofs::StandingViews::standing_exp_view))]
+    fn is_single(expression: &Exp) -> bool
+        ensures { result ≡ true → is_listed_exp expression.now ≡ false }
+    {
+        !matches!(expression.form(), ExpForm::Hole(_) | ExpForm::Call(_))
+    }
+
+    #[tactic(auto, using(crate::proofs::SpelledViews::binary_forms))]
+    fn node(alloc: Global, operator: BinaryOperator, rest: &mut Vec<Exp>) -> Result<Exp, Memory> {
         let first = rest.pop().ok_or(Memory)?;
         let second = rest.pop().ok_or(Memory)?;
-        let first = Boxed::new(alloc, first)?;
-        let second = Boxed::new(alloc, second)?;
-        Ok(Exp::Binary(operator, first, second))
+        if first.height() >= 1_000 || second.height() >= 1_000 {
+            return Err(Memory);
+        }
+        if !is_single(&first) || !is_single(&second) {
+            return Err(Memory);
+        }
+        Exp::binary(alloc, operator, first, second, AT)
     }
 
     fn tree(alloc: Global, words: &mut Words, notation: &[u8]) -> Result<Exp, Memory> {
         let mut rest = Vec::new(alloc);
         for byte in notation.iter().rev() {
             let next = match *byte {
-                b'+' => node(alloc, BinaryOp::Add, &mut rest)?,
-                b'*' => node(alloc, BinaryOp::Multiply, &mut rest)?,
-                byte => leaf(words, byte)?,
+                b'+' => node(alloc, BinaryOperator::Add, &mut rest)?,
+                b'*' => node(alloc, BinaryOperator::Multiply, &mut rest)?,
+                byte => leaf(alloc, words, byte)?,
             };
             rest.push(next)?;
         }

@@ -1,2 +1,2 @@
-pub mod Forms
-pub mod Parts
+pub mod Bools
+pub mod CallViews

@@ -1,4 +1,3 @@
-pub mod Levels
-pub mod Pure
+pub mod Calls
 pub mod Named
-pub mod Parts
+pub mod Built

@@ -1,5 +1,5 @@
 -- Items that were taken in, one by one.
-use Rattle.std.proofs.Common.{◌≡◌, ◌≢◌, refl, ap, sym, subst, ◌∙◌, ℕ, ◌<◌, List, [], ◌∷◌, ◌++◌, Option, Some, None, append_assoc, arith}
+use Rattle.std.proofs.Common.{◌≡◌, ◌≢◌, refl, ap, sym, subst, ◌∙◌, ℕ, ◌+◌, ◌<◌, ◌≤◌, List, [], ◌∷◌, ◌++◌, Option, Some, None, append_assoc, arith}
 use Rattle.std.proofs.lemmas.List.{append-nil}
 use Rattle.c_tokens.specs.declared.token.Word.{Word}
 use Rattle.c_tokens.specs.declared.token.Token.{Token}
@@ -8,13 +8,18 @@ use Rattle.c_tokens.specs.declared.token.Shape.TheVariants.{End}
 use Rattle.c_tokens.specs.declared.token.Shape.TheVariants as s
 use Rattle.c_tokens.specs.declared.token.Key.TheVariants as key
 use Rattle.c_tokens.specs.declared.token.Mark.TheVariants as mark
-use Rattle.c_trees.specs.declared.tree.Declaration.{Declaration}
-use Rattle.c_trees.specs.declared.tree.First.{First}
-use Rattle.c_trees.specs.declared.tree.Item.{Item}
+use Rattle.c_trees.specs.declared.first.Declaration.{Declaration}
+use Rattle.c_trees.specs.declared.first.First.{First}
+use Rattle.c_trees.specs.declared.first.Item.{Item}
 use Rattle.c_grammar.specs.Reader.{shape_at}
 use Rattle.c_grammar.specs.Grammar.{an_item, item_by, defined as defines}
-use Rattle.c_grammar.specs.Spells.{SpellsItem}
-use Rattle.c_grammar.specs.Laws.{IsFirstDead, IsTooDeep}
+use Rattle.c_tokens.specs.declared.token.Punct.TheVariants as punct
+use Rattle.c_trees.specs.declared.first.Item.TheVariants as item
+use Rattle.c_grammar.specs.Spells.{SpellsItem, SpellsDeclaration}
+use Rattle.c_grammar.specs.Laws.{AreKnown, IsFirstDead, IsTooDeep}
+use Rattle.c_grammar.proofs.Heights.{low_value, low_template}
+use Rattle.c_grammar.proofs.Named.{built_value, built_template}
+use Rattle.templates.proofs.Kept.{value_built, template_built}
 use Rattle.c_grammar.proofs.Local.{from}
 use Rattle.c_grammar.proofs.Items.{item_read}
 use Rattle.c_grammar.proofs.Advance.{Takes, advances}
@@ -29,7 +34,7 @@ use Rattle.c_grammar.specs.declared.refusal.Refusal.TheVariants as refusal
 use Rattle.c_parser.specs.Answers.{name_of as seen_name}
 use Rattle.expander.specs.declared.stop.Stop.{Stop}
 use Rattle.expander.specs.declared.stop.Stop.TheVariants.{Syntax, TooDeep, Memory}
-use Rattle.expander.specs.Meaning.{limit, name_of, defined, defined_by, Read, meaning_of, meaning, IsTranslation, Refused, IsTaken, IsRefusal, IsStop, stop_at}
+use Rattle.expander.specs.Meaning.{limit, name_of, defined, defined_by, Read, meaning_of, meaning, IsTranslation, Refused, IsTaken, IsRefusal, IsStop, stop_at, AreFew, IsReady, CanExpand, CanTake}
 
 -- what was read so far, the macro that is defined, and what is written
 pub record Progress (names : List (List ℕ)) (w : List Token) (first : Option First) (written : List Declaration) (at : ℕ) : Type 0 where
@@ -147,3 +152,35 @@ pub as_stop : (names : List (List ℕ)) (m n : Option Word) (w : List Token) (at
 as_stop names m n w at (refusal.Syntax k) stop same is dead deep = subst (IsRefusal names n w at) (sym is) (k, (subst (λ m. IsFirstDead names m w at k) same (dead k refl), refl))
 as_stop names m n w at (refusal.TooDeep k) stop same is dead deep = subst (IsRefusal names n w at) (sym is) (k, (subst (λ m. IsTooDeep limit names m w at k) same (deep k refl), refl))
 as_stop names m n w at refusal.Memory stop same is dead deep = subst (IsRefusal names n w at) (sym is) tt
+
+-- ---- what may be expanded
+
+module _ (names : List (List ℕ)) (w : List Token) (known : AreKnown names w) (few : AreFew w) where
+  early : (k : ℕ) → (x : Shape) → shape_at w k ≡ x → (x ≡ End → ⊥) → k < 1024
+  early k x e other = elim (cases_lt k 1024) [
+    | inl less ↦ less
+    | inr past ↦ absurd (other (sym e ∙ few k past))
+  ]
+
+  semicolon : s.Punct punct.Semicolon ≡ End → ⊥
+  semicolon e = cc e
+
+  expandable : (first : Option First) (t : Declaration) (at after : ℕ) → IsReady names first at → SpellsDeclaration limit w (name_of first) t at after → CanExpand first t
+  expandable None t at after R S = tt
+  expandable (Some f) t at after R S =
+      let last : S.last < 1024 = early S.last (s.Punct punct.Semicolon) S.ends.0 semicolon in (
+        value_built (Some names) true t.value (built_value names w known limit (Some f.name) t at after S),
+        (template_built (Some names) f.template R.0, omega (arith, R.1, low_value w limit (Some f.name) t at after S, S.ends.1)),
+      )
+
+  pub takeable : (first : Option First) (t : Item) (at after : ℕ) → IsReady names first at → SpellsItem limit w names (name_of first) t at after → CanTake first t
+  takeable first (item.Declaration t) at after R S = expandable first t at after R S
+  takeable first (item.Definition f) at after R S = tt
+
+  later : (first : Option First) (at after : ℕ) → at < after → IsReady names first at → IsReady names first after
+  later None at after less R = tt
+  later (Some f) at after less R = (R.0, omega (arith, R.1))
+
+  pub ready_after : (first : Option First) (t : Item) (at after : ℕ) → IsReady names first at → SpellsItem limit w names (name_of first) t at after → IsReady names (defined first t) after
+  ready_after first (item.Declaration t) at after R S = later first at after (onward w names (name_of first) (item.Declaration t) at after S) R
+  ready_after first (item.Definition f) at after R S = (built_template names w known limit f at after S.1, omega (arith, low_template w limit names f at after S.1))

@@ -1,19 +1,22 @@
 -- What the items of a source stand for.
-use Rattle.std.specs.Prelude.{◌≡◌, ◌≢◌, ℕ, List, [], ◌∷◌, ◌++◌, Option, Some, None}
+use Rattle.std.specs.Prelude.{◌≡◌, ◌≢◌, ◌≤◌, ℕ, ◌+◌, true, false, List, [], ◌∷◌, ◌++◌, Option, Some, None}
 use denote.Ref.{Bor}
 use Rattle.c_tokens.specs.declared.token.Word.{Word}
 use Rattle.c_tokens.specs.declared.token.Token.{Token}
 use Rattle.c_tokens.specs.declared.token.Shape.TheVariants.{End}
-use Rattle.c_trees.specs.declared.tree.Declaration.{Declaration}
-use Rattle.c_trees.specs.declared.tree.First.{First}
-use Rattle.c_trees.specs.declared.tree.Item.{Item}
-use Rattle.c_trees.specs.declared.tree.Item.TheVariants as item
+use Rattle.c_trees.specs.declared.first.Declaration.{Declaration}
+use Rattle.c_trees.specs.declared.first.First.{First}
+use Rattle.c_trees.specs.declared.first.Item.{Item}
+use Rattle.c_trees.specs.declared.first.Item.TheVariants as item
 use Rattle.c_grammar.specs.Reader.{shape_at, token_at}
 use Rattle.c_grammar.specs.Spells.{SpellsItem}
 use Rattle.c_grammar.specs.Laws.{IsFirstDead, IsTooDeep}
 use Rattle.c_grammar.specs.declared.refusal.Refusal.{Refusal}
 use Rattle.c_grammar.specs.declared.refusal.Refusal.TheVariants as refusal
+use Rattle.syntax_trees.specs.Measures.{height_of_exp}
+use Rattle.c_trees.specs.Built.{Built}
 use Rattle.templates.specs.Filling.{expanded}
+use Rattle.templates.specs.Forms.{is_template, is_value}
 use Rattle.expander.specs.declared.stop.Stop.{Stop}
 use Rattle.expander.specs.declared.stop.Stop.TheVariants.{Syntax, TooDeep, Memory}
 
@@ -113,3 +116,25 @@ stop_at w refusal.Memory = Memory
 abbrev pub value_seen : Option (Bor First) → Declaration → Declaration
 value_seen (Some f) t = value_under (Some f.now) t
 value_seen None t = t
+
+-- No token stands from place 1024 on: the first form of a macro can then make no expression that is too high.
+abbrev pub AreFew : List Token → Type 0
+AreFew w = (k : ℕ) → 1024 ≤ k → shape_at w k ≡ End
+
+-- the template of the macro has the forms that are read, and is lower than the number of tokens before this place
+abbrev pub IsReady : List (List ℕ) → Option First → ℕ → Type 0
+IsReady names (Some f) at = Built (Some names) true false f.template × (height_of_exp f.template + 19 ≤ at)
+IsReady names None at = Unit {0}
+
+-- the value of a declaration can be expanded under the macro
+abbrev pub CanExpand : Option First → Declaration → Type 0
+CanExpand (Some f) t = (is_value t.value ≡ true) × ((is_template f.template ≡ true) × (height_of_exp t.value + height_of_exp f.template ≤ 1000))
+CanExpand None t = Unit {0}
+
+abbrev pub CanTake : Option First → Item → Type 0
+CanTake first (item.Declaration t) = CanExpand first t
+CanTake first (item.Definition f) = Unit {0}
+
+abbrev pub seen : Option (Bor First) → Option First
+seen (Some f) = Some f.now
+seen None = None

@@ -4,7 +4,7 @@ ghost use Rattle.std.specs.Prelude.{◌≡◌, ◌++◌, ◌↔◌, IfOk, IfErr,
 ghost use Rattle.c_tokens.specs.declared.token.Shape.TheVariants.{End};
 ghost use Rattle.c_grammar.specs.Reader.{shape_at, token_at};
 ghost use Rattle.c_grammar.specs.Laws.{AreKnown};
-ghost use Rattle.expander.specs.Meaning.{IsTranslation, IsStop, IsTaken, IsRefusal, name_of, defined, meaning_of, value_seen, stop_at};
+ghost use Rattle.expander.specs.Meaning.{AreFew, IsReady, CanExpand, CanTake, seen, IsTranslation, IsStop, IsTaken, IsRefusal, name_of, defined, meaning_of, value_seen, stop_at};
 
 use crate::stop::Stop;
 use c_parser::{Refusal, read_item};
@@ -17,6 +17,7 @@ use templates::expand;
 /// The declarations that all items of the tokens stand for.
 pub fn feed(alloc: Global, tokens: &[Token], words: &Words) -> Result<Items<Declaration>, Stop>
     requires known { AreKnown words.now tokens.now }
+    requires few { AreFew tokens.now }
     ensures translated { IfOk result (λ written. IsTranslation words.now tokens.now written) }
     ensures stopped { IfErr result (λ stop. IsStop words.now tokens.now stop) }
 {
@@ -39,7 +40,10 @@ fn take_next(
     written: &mut Items<Declaration>,
 ) -> Result<usize, Stop>
     requires known { AreKnown words.now tokens.now }
+    requires few { AreFew tokens.now }
+    requires ready { IsReady words.now first.old at }
     ensures taken { IfOk result (λ after. IsTaken words.now tokens.now first.old written.old at first.new written.new after) }
+    ensures ready { IfOk result (λ after. IsReady words.now first.new after) }
     ensures stopped { IfErr result (λ stop. IsRefusal words.now (name_of first.old) tokens.now at stop) }
 {
     match read_item(alloc, tokens, at, first.as_ref(), words) {
@@ -68,6 +72,7 @@ fn take(
     first: &mut Option<First>,
     written: &mut Items<Declaration>,
 ) -> Result<(), Memory>
+    requires { CanTake first.old item }
     ensures first { OnOk result (first.new ≡ defined first.old item) }
     ensures written { OnOk result (written.new ≡ written.old ++ meaning_of first.old item) }
 {
@@ -89,6 +94,7 @@ fn expanded(
     declaration: Declaration,
     first: Option<&First>,
 ) -> Result<Declaration, Memory>
+    requires { CanExpand (seen first) declaration }
     ensures { IfOk result (λ made. made ≡ value_seen first.entry declaration) }
 {
     match first {

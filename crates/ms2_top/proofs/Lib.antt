@@ -5,3 +5,4 @@ pub mod Meanings
 pub mod Plain
 pub mod Refusals
 pub mod Translated
+pub mod Counted

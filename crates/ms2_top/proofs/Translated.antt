@@ -4,15 +4,13 @@ use Rattle.std.specs.List.{AllPass, IsDistinct}
 use Rattle.c_tokens.specs.declared.token.Token.{Token}
 use Rattle.c_tokens.specs.declared.lexical.Dialect.TheVariants.{C90}
 use Rattle.c_tokens.specs.Tokens.{tokens_of}
-use Rattle.c_trees.specs.Pure.{is_pure_declaration}
-use Rattle.c_trees.specs.Named.{is_named_declaration}
-use Rattle.c_trees.specs.declared.tree.Declaration.{Declaration}
-use Rattle.c_trees.specs.declared.tree.Item.{Item}
+use Rattle.c_trees.specs.declared.first.Declaration.{Declaration}
+use Rattle.c_trees.specs.declared.first.Item.{Item}
 use Rattle.c_grammar.specs.Words.{AreDistinct}
 use Rattle.c_grammar.specs.Laws.{AreKnown}
 use Rattle.c_grammar.proofs.Lexed.{known_tokens}
 use Rattle.c_printer.specs.Layout.{layout}
-use Rattle.c_printer.specs.ReadBack.{IsReadBack, ReadsBack}
+use Rattle.c_printer.specs.ReadBack.{IsReadBack, ReadsBack, ArePrintable}
 use Rattle.c_printer.specs.Spelled.{deepest}
 use Rattle.expander.specs.declared.stop.Stop.{Stop}
 use Rattle.expander.specs.declared.stop.Stop.TheVariants.{Syntax, TooDeep, Memory}
@@ -20,8 +18,8 @@ use Rattle.expander.specs.Meaning.{IsSource, IsStop, IsTranslation, meaning}
 use Rattle.c_tokens.specs.declared.memory.Memory.{Memory as Gone}
 use Rattle.ms2_top.specs.declared.source.Outcome.{Outcome}
 use Rattle.ms2_top.specs.declared.source.Outcome.TheVariants.{Stopped}
-use Rattle.ms2_top.specs.Outcomes.{IsOutcome, texts_of, IsPlain, IsTextOf, HasNoReading, IsStopOf}
-use Rattle.ms2_top.proofs.Meanings.{none_sound, pure_meaning, named_meaning}
+use Rattle.ms2_top.specs.Outcomes.{IsOutcome, texts_of, is_pure_declaration, IsPlain, IsTextOf, HasNoReading, IsStopOf}
+use Rattle.ms2_top.proofs.Meanings.{none_sound, printable_meaning, pure_printable}
 use Rattle.ms2_top.proofs.Plain.{one_plain, same_tokens}
 use Rattle.ms2_top.proofs.Refusals.{first_dead_none, too_deep_none}
 
@@ -29,23 +27,24 @@ module _ (bytes : List ℕ) (w : List Token) (lexed : tokens_of C90 (texts_of by
   pub known : AreKnown (texts_of bytes) w
   known = known_tokens [] bytes w lexed
 
-  plain : (written : List Declaration) (text : List ℕ) → ReadsBack (texts_of bytes) written text → IsPlain (texts_of bytes) text written
+  plain : (written : List Declaration) (text : List ℕ) (R : ReadsBack (texts_of bytes) written text) → IsPlain (texts_of bytes) text R.read
   plain written text R = record { tokens = R.tokens; lexed = R.lexed; depth = deepest written; last = R.last; spelled = R.spelled; ends = R.ends }
 
   pub is_text : (written : List Declaration) (text : List ℕ) → IsDistinct bytes_eq (texts_of bytes) → IsTranslation (texts_of bytes) w written
       → text ≡ layout (texts_of bytes) written → IsReadBack (texts_of bytes) written text → IsTextOf bytes text
   is_text written text distinct T e back =
-      let pure : AllPass is_pure_declaration (meaning None T.items) = pure_meaning (texts_of bytes) w known None T.items 0 T.source.after (none_sound (texts_of bytes) w known) T.source.read in
-      let named : AllPass (is_named_declaration (texts_of bytes)) (meaning None T.items) = named_meaning (texts_of bytes) w known None T.items 0 T.source.after (none_sound (texts_of bytes) w known) T.source.read in
-      let again : ReadsBack (texts_of bytes) (meaning None T.items) text = subst (λ ts. IsReadBack (texts_of bytes) ts text) T.value back distinct pure named in
-      let P : IsPlain (texts_of bytes) text (meaning None T.items) = plain (meaning None T.items) text again in
+      let printable : ArePrintable (texts_of bytes) (meaning None T.items) = printable_meaning (texts_of bytes) w known None T.items 0 T.source.after (none_sound (texts_of bytes) w known) T.source.read in
+      let again : ReadsBack (texts_of bytes) (meaning None T.items) text = subst (λ ts. IsReadBack (texts_of bytes) ts text) T.value back distinct printable in
+      let P : IsPlain (texts_of bytes) text again.read = plain (meaning None T.items) text again in
       record {
         items = T.items;
         source = record { tokens = w; lexed = lexed; read = T.source };
         value = e ∙ ap (layout (texts_of bytes)) T.value;
-        pure = pure;
+        pure = pure_printable (texts_of bytes) (meaning None T.items) printable;
+        read = again.read;
+        same = again.same;
         reading = P;
-        only = λ others Q. one_plain (texts_of bytes) text (meaning None T.items) others P Q;
+        only = λ others Q. one_plain (texts_of bytes) text again.read others P Q;
       }
 
   no_reading : ((items : List Item) → IsSource (texts_of bytes) w items → ⊥) → HasNoReading bytes

@@ -1,17 +1,17 @@
 -- What comes of the bytes of a source.
-use Rattle.std.specs.Prelude.{◌≡◌, ℕ, List, [], None, Ok}
+use Rattle.std.specs.Prelude.{◌≡◌, ℕ, Bool, List, [], None, Ok}
 use Rattle.std.specs.List.{AllPass}
 use Rattle.c_tokens.specs.declared.token.Token.{Token}
 use Rattle.c_tokens.specs.declared.token.Shape.TheVariants.{End}
 use Rattle.c_tokens.specs.declared.lexical.Dialect.TheVariants.{C90}
 use Rattle.c_tokens.specs.declared.lexical.LexCause.{LexCause}
 use Rattle.c_tokens.specs.Tokens.{tokens_of, gained, bad}
-use Rattle.c_trees.specs.Pure.{is_pure_declaration}
-use Rattle.c_trees.specs.declared.tree.Declaration.{Declaration}
-use Rattle.c_trees.specs.declared.tree.Item.{Item}
+use Rattle.syntax_trees.specs.Measures.{is_pure_exp}
+use Rattle.c_trees.specs.declared.first.Declaration.{Declaration}
+use Rattle.c_trees.specs.declared.first.Item.{Item}
 use Rattle.c_grammar.specs.Reader.{shape_at}
 use Rattle.c_printer.specs.Layout.{layout}
-use Rattle.c_printer.specs.ReadBack.{SpellInTurn}
+use Rattle.c_printer.specs.ReadBack.{SpellInTurn, AreSame}
 use Rattle.expander.specs.declared.stop.Stop.{Stop}
 use Rattle.expander.specs.Meaning.{IsSource, IsStop, meaning}
 use Rattle.ms2_top.specs.declared.source.Outcome.{Outcome}
@@ -41,15 +41,21 @@ pub record IsSourceOf (bytes : List ℕ) (items : List Item) : Type 0 where
   pub lexed : tokens_of C90 (texts_of bytes) bytes ≡ Ok tokens
   pub read : IsSource (texts_of bytes) tokens items
 
--- The text is that of the declarations that the source's items stand for: free of calls and placeholders,
--- and the only reading of the text in the plain C grammar.
+-- whether a declaration has no extension node
+abbrev pub is_pure_declaration : Declaration → Bool
+is_pure_declaration t = is_pure_exp t.value
+
+-- The text is that of the declarations that the source's items stand for, which are free of calls and placeholders.
+-- Its only reading in the plain C grammar is these declarations, spans aside.
 pub record IsTextOf (bytes text : List ℕ) : Type 0 where
   pub items : List Item
   pub source : IsSourceOf bytes items
   pub value : text ≡ layout (texts_of bytes) (meaning None items)
   pub pure : AllPass is_pure_declaration (meaning None items)
-  pub reading : IsPlain (texts_of bytes) text (meaning None items)
-  pub only : (others : List Declaration) → IsPlain (texts_of bytes) text others → others ≡ meaning None items
+  pub read : List Declaration
+  pub same : AreSame (meaning None items) read
+  pub reading : IsPlain (texts_of bytes) text read
+  pub only : (others : List Declaration) → IsPlain (texts_of bytes) text others → others ≡ read
 
 -- No items are a reading of the bytes.
 abbrev pub HasNoReading : List ℕ → Type 0

@@ -7,7 +7,7 @@ ghost use Rattle.ms2_top.specs.Outcomes.{IsOutcome, texts_of};
 
 use c_lexer::{LexStop, lex};
 use c_printer::print;
-use c_tokens::{Bytes, Dialect, LexCause, MAX_SOURCE_BYTES, Memory, Token, Words};
+use c_tokens::{Bytes, Dialect, LexCause, Memory, Token, Words};
 use expander::{Stop, feed};
 use std::alloc::Global;
 
@@ -21,7 +21,7 @@ pub enum Outcome {
 
 /// What comes of the bytes of a file.
 pub fn outcome_of(alloc: Global, bytes: &[u8]) -> Result<Outcome, Memory>
-    requires { length bytes.now ≤ MAX_SOURCE_BYTES }
+    requires { length bytes.now ≤ 1024 }
     ensures { IfOk result (λ found. IsOutcome bytes.now found) }
 {
     let mut words = Words::new(alloc);
@@ -41,6 +41,7 @@ fn translate(
 ) -> Result<Outcome, Memory>
     requires table { words.now ≡ texts_of bytes.now }
     requires lexed { tokens_of C90 words.now bytes.now ≡ Ok tokens.now }
+    requires size { length bytes.now ≤ 1024 }
     ensures { IfOk result (λ found. IsOutcome bytes.now found) }
 {
     // The table says that its texts are distinct.

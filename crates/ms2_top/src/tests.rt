@@ -1,7 +1,8 @@
 //! What no clause says: that runs succeed where memory is ample, and what they write for worked sources.
 
+use crate::program::MAX_FILE_BYTES;
 use crate::{Outcome, Status, outcome_of, run};
-use c_tokens::{List, MAX_SOURCE_BYTES};
+use c_tokens::List;
 use expander::Stop;
 use io_edge::{MemoryShelf, MemorySink, Sink, SureSink};
 use std::alloc::Global;
@@ -168,7 +169,7 @@ fn refuses_what_has_no_reading(rt: HostRuntime) -> Result<(), Fail> {
 
 /// The place in bytes of the token that shows why a source is refused, of one that is too deep past a million.
 fn refused_at(alloc: Global, source: &[u8]) -> Result<u32, Fail> {
-    if source.len() > MAX_SOURCE_BYTES {
+    if source.len() > MAX_FILE_BYTES {
         return Err(Fail::new("too large"));
     }
     match outcome_of(alloc, source)? {

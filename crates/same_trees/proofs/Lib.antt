@@ -1,3 +1,2 @@
 mod Lengths
 mod SameViews
-mod SizeViews

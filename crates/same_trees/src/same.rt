@@ -21,7 +21,7 @@ use syntax_trees::{
 
 /// Whether two trees are the same, spans aside.
 #[cycle(same)]
-#[tactic(auto, using(crate::proofs::SameViews::same_exp_view, crate::proofs::SizeViews::size_exp_view))]
+#[tactic(auto, using(crate::proofs::SameViews::same_exp_view, syntax_trees::proofs::SizeViews::size_exp_view))]
 pub fn same_exp(one: &Exp, other: &Exp) -> bool
     ensures { result ≡ trees.same_exp one.now other.now }
 {
@@ -226,7 +226,7 @@ pub fn same_exp(one: &Exp, other: &Exp) -> bool
 
 /// Whether two trees are the same, spans aside.
 #[cycle(same)]
-#[tactic(auto, using(crate::proofs::SameViews::same_type_name_view, crate::proofs::SizeViews::size_type_name_view))]
+#[tactic(auto, using(crate::proofs::SameViews::same_type_name_view, syntax_trees::proofs::SizeViews::size_type_name_view))]
 pub fn same_type_name(one: &TypeName, other: &TypeName) -> bool
     ensures { result ≡ trees.same_type_name one.now other.now }
 {
@@ -238,7 +238,7 @@ pub fn same_type_name(one: &TypeName, other: &TypeName) -> bool
 
 /// Whether two trees are the same, spans aside.
 #[cycle(same)]
-#[tactic(auto, using(crate::proofs::SameViews::same_spec_view, crate::proofs::SizeViews::size_spec_view))]
+#[tactic(auto, using(crate::proofs::SameViews::same_spec_view, syntax_trees::proofs::SizeViews::size_spec_view))]
 pub fn same_spec(one: &Spec, other: &Spec) -> bool
     ensures { result ≡ trees.same_spec one.now other.now }
 {
@@ -313,7 +313,7 @@ pub fn same_spec(one: &Spec, other: &Spec) -> bool
 
 /// Whether two trees are the same, spans aside.
 #[cycle(same)]
-#[tactic(auto, using(crate::proofs::SameViews::same_specs_view, crate::proofs::SizeViews::size_specs_view))]
+#[tactic(auto, using(crate::proofs::SameViews::same_specs_view, syntax_trees::proofs::SizeViews::size_specs_view))]
 pub fn same_specs(one: &Specs, other: &Specs) -> bool
     ensures { result ≡ trees.same_specs one.now other.now }
 {
@@ -324,7 +324,7 @@ pub fn same_specs(one: &Specs, other: &Specs) -> bool
 
 /// Whether two trees are the same, spans aside.
 #[cycle(same)]
-#[tactic(auto, using(crate::proofs::SameViews::same_member_declarator_view, crate::proofs::SizeViews::size_member_declarator_view))]
+#[tactic(auto, using(crate::proofs::SameViews::same_member_declarator_view, syntax_trees::proofs::SizeViews::size_member_declarator_view))]
 pub fn same_member_declarator(one: &MemberDeclarator, other: &MemberDeclarator) -> bool
     ensures { result ≡ trees.same_member_declarator one.now other.now }
 {
@@ -336,7 +336,7 @@ pub fn same_member_declarator(one: &MemberDeclarator, other: &MemberDeclarator) 
 
 /// Whether two trees are the same, spans aside.
 #[cycle(same)]
-#[tactic(auto, using(crate::proofs::SameViews::same_member_view, crate::proofs::SizeViews::size_member_view))]
+#[tactic(auto, using(crate::proofs::SameViews::same_member_view, syntax_trees::proofs::SizeViews::size_member_view))]
 pub fn same_member(one: &Member, other: &Member) -> bool
     ensures { result ≡ trees.same_member one.now other.now }
 {
@@ -366,7 +366,7 @@ pub fn same_member(one: &Member, other: &Member) -> bool
 
 /// Whether two trees are the same, spans aside.
 #[cycle(same)]
-#[tactic(auto, using(crate::proofs::SameViews::same_enumerator_view, crate::proofs::SizeViews::size_enumerator_view))]
+#[tactic(auto, using(crate::proofs::SameViews::same_enumerator_view, syntax_trees::proofs::SizeViews::size_enumerator_view))]
 pub fn same_enumerator(one: &Enumerator, other: &Enumerator) -> bool
     ensures { result ≡ trees.same_enumerator one.now other.now }
 {
@@ -377,7 +377,7 @@ pub fn same_enumerator(one: &Enumerator, other: &Enumerator) -> bool
 
 /// Whether two trees are the same, spans aside.
 #[cycle(same)]
-#[tactic(auto, using(crate::proofs::SameViews::same_declarator_view, crate::proofs::SizeViews::size_declarator_view))]
+#[tactic(auto, using(crate::proofs::SameViews::same_declarator_view, syntax_trees::proofs::SizeViews::size_declarator_view))]
 pub fn same_declarator(one: &Declarator, other: &Declarator) -> bool
     ensures { result ≡ trees.same_declarator one.now other.now }
 {
@@ -423,7 +423,7 @@ pub fn same_declarator(one: &Declarator, other: &Declarator) -> bool
 
 /// Whether two trees are the same, spans aside.
 #[cycle(same)]
-#[tactic(auto, using(crate::proofs::SameViews::same_params_view, crate::proofs::SizeViews::size_params_view))]
+#[tactic(auto, using(crate::proofs::SameViews::same_params_view, syntax_trees::proofs::SizeViews::size_params_view))]
 pub fn same_params(one: &Params, other: &Params) -> bool
     ensures { result ≡ trees.same_params one.now other.now }
 {
@@ -453,7 +453,7 @@ pub fn same_params(one: &Params, other: &Params) -> bool
 
 /// Whether two trees are the same, spans aside.
 #[cycle(same)]
-#[tactic(auto, using(crate::proofs::SameViews::same_param_view, crate::proofs::SizeViews::size_param_view))]
+#[tactic(auto, using(crate::proofs::SameViews::same_param_view, syntax_trees::proofs::SizeViews::size_param_view))]
 pub fn same_param(one: &Param, other: &Param) -> bool
     ensures { result ≡ trees.same_param one.now other.now }
 {
@@ -479,7 +479,7 @@ pub fn same_param(one: &Param, other: &Param) -> bool
 
 /// Whether two trees are the same, spans aside.
 #[cycle(same)]
-#[tactic(auto, using(crate::proofs::SameViews::same_init_view, crate::proofs::SizeViews::size_init_view))]
+#[tactic(auto, using(crate::proofs::SameViews::same_init_view, syntax_trees::proofs::SizeViews::size_init_view))]
 pub fn same_init(one: &Init, other: &Init) -> bool
     ensures { result ≡ trees.same_init one.now other.now }
 {
@@ -500,7 +500,7 @@ pub fn same_init(one: &Init, other: &Init) -> bool
 
 /// Whether two trees are the same, spans aside.
 #[cycle(same)]
-#[tactic(auto, using(crate::proofs::SameViews::same_init_declarator_view, crate::proofs::SizeViews::size_init_declarator_view))]
+#[tactic(auto, using(crate::proofs::SameViews::same_init_declarator_view, syntax_trees::proofs::SizeViews::size_init_declarator_view))]
 pub fn same_init_declarator(one: &InitDeclarator, other: &InitDeclarator) -> bool
     ensures { result ≡ trees.same_init_declarator one.now other.now }
 {
@@ -512,7 +512,7 @@ pub fn same_init_declarator(one: &InitDeclarator, other: &InitDeclarator) -> boo
 
 /// Whether two trees are the same, spans aside.
 #[cycle(same)]
-#[tactic(auto, using(crate::proofs::SameViews::same_decl_view, crate::proofs::SizeViews::size_decl_view))]
+#[tactic(auto, using(crate::proofs::SameViews::same_decl_view, syntax_trees::proofs::SizeViews::size_decl_view))]
 pub fn same_decl(one: &Decl, other: &Decl) -> bool
     ensures { result ≡ trees.same_decl one.now other.now }
 {
@@ -543,7 +543,7 @@ pub fn same_decl(one: &Decl, other: &Decl) -> bool
 
 /// Whether two trees are the same, spans aside.
 #[cycle(same)]
-#[tactic(auto, using(crate::proofs::SameViews::same_block_view, crate::proofs::SizeViews::size_block_view))]
+#[tactic(auto, using(crate::proofs::SameViews::same_block_view, syntax_trees::proofs::SizeViews::size_block_view))]
 pub fn same_block(one: &Block, other: &Block) -> bool
     ensures { result ≡ trees.same_block one.now other.now }
 {
@@ -555,7 +555,7 @@ pub fn same_block(one: &Block, other: &Block) -> bool
 
 /// Whether two trees are the same, spans aside.
 #[cycle(same)]
-#[tactic(auto, using(crate::proofs::SameViews::same_stmt_view, crate::proofs::SizeViews::size_stmt_view))]
+#[tactic(auto, using(crate::proofs::SameViews::same_stmt_view, syntax_trees::proofs::SizeViews::size_stmt_view))]
 pub fn same_stmt(one: &Stmt, other: &Stmt) -> bool
     ensures { result ≡ trees.same_stmt one.now other.now }
 {
@@ -709,7 +709,7 @@ pub fn same_stmt(one: &Stmt, other: &Stmt) -> bool
 
 /// Whether two trees are the same, spans aside.
 #[cycle(same)]
-#[tactic(auto, using(crate::proofs::SameViews::same_item_view, crate::proofs::SizeViews::size_item_view))]
+#[tactic(auto, using(crate::proofs::SameViews::same_item_view, syntax_trees::proofs::SizeViews::size_item_view))]
 pub fn same_item(one: &Item, other: &Item) -> bool
     ensures { result ≡ trees.same_item one.now other.now }
 {
@@ -753,7 +753,7 @@ pub fn same_item(one: &Item, other: &Item) -> bool
 
 /// Whether two trees are the same, spans aside.
 #[cycle(same)]
-#[tactic(auto, using(crate::proofs::SameViews::same_call_view, crate::proofs::SizeViews::size_call_view))]
+#[tactic(auto, using(crate::proofs::SameViews::same_call_view, syntax_trees::proofs::SizeViews::size_call_view))]
 pub fn same_call(one: &Call, other: &Call) -> bool
     ensures { result ≡ trees.same_call one.now other.now }
 {
@@ -767,7 +767,7 @@ pub fn same_call(one: &Call, other: &Call) -> bool
 
 /// Whether two trees are the same, spans aside.
 #[cycle(same)]
-#[tactic(auto, using(crate::proofs::SameViews::same_argument_view, crate::proofs::SizeViews::size_argument_view))]
+#[tactic(auto, using(crate::proofs::SameViews::same_argument_view, syntax_trees::proofs::SizeViews::size_argument_view))]
 pub fn same_argument(one: &Argument, other: &Argument) -> bool
     ensures { result ≡ trees.same_argument one.now other.now }
 {
@@ -791,7 +791,7 @@ pub fn same_argument(one: &Argument, other: &Argument) -> bool
 
 /// Whether two trees are the same, spans aside.
 #[cycle(same)]
-#[tactic(auto, using(crate::proofs::SameViews::same_body_view, crate::proofs::SizeViews::size_body_view))]
+#[tactic(auto, using(crate::proofs::SameViews::same_body_view, syntax_trees::proofs::SizeViews::size_body_view))]
 pub fn same_body(one: &Body, other: &Body) -> bool
     ensures { result ≡ trees.same_body one.now other.now }
 {
@@ -813,7 +813,7 @@ pub fn same_body(one: &Body, other: &Body) -> bool
 
 /// Whether two trees are the same, spans aside.
 #[cycle(same)]
-#[tactic(auto, using(crate::proofs::SameViews::same_tree_view, crate::proofs::SizeViews::size_tree_view))]
+#[tactic(auto, using(crate::proofs::SameViews::same_tree_view, syntax_trees::proofs::SizeViews::size_tree_view))]
 pub fn same_tree(one: &Tree, other: &Tree) -> bool
     ensures { result ≡ trees.same_tree one.now other.now }
 {

@@ -1,4 +1,3 @@
 mod EventViews
-mod SizeViews
 mod Gathered
 mod Worked

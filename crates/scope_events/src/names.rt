@@ -73,7 +73,7 @@ pub fn note_ids(ids: &[IdPart], used: NameUse, out: &mut Vec<Event>) -> Result<(
 }
 
 /// The events of the name of a declarator.
-#[tactic(auto, using(crate::proofs::EventViews::in_declarator_view, crate::proofs::SizeViews::size_declarator_view))]
+#[tactic(auto, using(crate::proofs::EventViews::in_declarator_view, syntax_trees::proofs::SizeViews::size_declarator_view))]
 pub fn note_name(from: &Declarator, used: NameUse, out: &mut Vec<Event>) -> Result<(), Memory>
     ensures { OnOk result (out.new.items ≡ after (at_held_name used (in_declarator from.now).name) out.old.items) }
 {

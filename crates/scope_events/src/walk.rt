@@ -31,7 +31,7 @@ pub fn events_of(alloc: Global, item: &Item) -> Result<Vec<Event>, Memory>
 }
 
 #[cycle(gather)]
-#[tactic(auto, using(crate::proofs::EventViews::events_argument_view, crate::proofs::SizeViews::size_argument_view))]
+#[tactic(auto, using(crate::proofs::EventViews::events_argument_view, syntax_trees::proofs::SizeViews::size_argument_view))]
 fn gather_argument(from: &Argument, out: &mut Vec<Event>) -> Result<(), Memory>
     ensures { OnOk result (out.new.items ≡ after (events_argument from.now) out.old.items) }
 {
@@ -42,7 +42,7 @@ fn gather_argument(from: &Argument, out: &mut Vec<Event>) -> Result<(), Memory>
 }
 
 #[cycle(gather)]
-#[tactic(auto, using(crate::proofs::EventViews::events_body_view, crate::proofs::SizeViews::size_body_view))]
+#[tactic(auto, using(crate::proofs::EventViews::events_body_view, syntax_trees::proofs::SizeViews::size_body_view))]
 fn gather_body(from: &Body, out: &mut Vec<Event>) -> Result<(), Memory>
     ensures { OnOk result (out.new.items ≡ after (events_body from.now) out.old.items) }
 {
@@ -53,7 +53,7 @@ fn gather_body(from: &Body, out: &mut Vec<Event>) -> Result<(), Memory>
 }
 
 #[cycle(gather)]
-#[tactic(auto, using(crate::proofs::EventViews::events_decl_view, crate::proofs::SizeViews::size_decl_view))]
+#[tactic(auto, using(crate::proofs::EventViews::events_decl_view, syntax_trees::proofs::SizeViews::size_decl_view))]
 fn gather_decl(from: &Decl, out: &mut Vec<Event>) -> Result<(), Memory>
     ensures { OnOk result (out.new.items ≡ after (events_decl from.now) out.old.items) }
 {
@@ -77,7 +77,7 @@ fn gather_decl(from: &Decl, out: &mut Vec<Event>) -> Result<(), Memory>
 }
 
 #[cycle(gather)]
-#[tactic(auto, using(crate::proofs::EventViews::in_declarator_view, crate::proofs::SizeViews::size_declarator_view))]
+#[tactic(auto, using(crate::proofs::EventViews::in_declarator_view, syntax_trees::proofs::SizeViews::size_declarator_view))]
 fn gather_declarator(from: &Declarator, used: NameUse, out: &mut Vec<Event>) -> Result<(), Memory>
     ensures { OnOk result (out.new.items ≡ after ((in_declarator from.now).events used) out.old.items) }
 {
@@ -104,7 +104,7 @@ fn gather_declarator(from: &Declarator, used: NameUse, out: &mut Vec<Event>) -> 
 }
 
 #[cycle(gather)]
-#[tactic(auto, using(crate::proofs::EventViews::events_exp_view, crate::proofs::SizeViews::size_exp_view))]
+#[tactic(auto, using(crate::proofs::EventViews::events_exp_view, syntax_trees::proofs::SizeViews::size_exp_view))]
 fn gather_exp(from: &Exp, out: &mut Vec<Event>) -> Result<(), Memory>
     ensures { OnOk result (out.new.items ≡ after (events_exp from.now) out.old.items) }
 {
@@ -174,7 +174,7 @@ fn gather_exp(from: &Exp, out: &mut Vec<Event>) -> Result<(), Memory>
 }
 
 #[cycle(gather)]
-#[tactic(auto, using(crate::proofs::EventViews::events_init_view, crate::proofs::SizeViews::size_init_view))]
+#[tactic(auto, using(crate::proofs::EventViews::events_init_view, syntax_trees::proofs::SizeViews::size_init_view))]
 fn gather_init(from: &Init, out: &mut Vec<Event>) -> Result<(), Memory>
     ensures { OnOk result (out.new.items ≡ after (events_init from.now) out.old.items) }
 {
@@ -185,7 +185,7 @@ fn gather_init(from: &Init, out: &mut Vec<Event>) -> Result<(), Memory>
 }
 
 #[cycle(gather)]
-#[tactic(auto, using(crate::proofs::EventViews::events_item_view, crate::proofs::SizeViews::size_item_view))]
+#[tactic(auto, using(crate::proofs::EventViews::events_item_view, syntax_trees::proofs::SizeViews::size_item_view))]
 fn gather_item(from: &Item, out: &mut Vec<Event>) -> Result<(), Memory>
     ensures { OnOk result (out.new.items ≡ after (events_item from.now) out.old.items) }
 {
@@ -214,7 +214,7 @@ fn gather_item(from: &Item, out: &mut Vec<Event>) -> Result<(), Memory>
 }
 
 #[cycle(gather)]
-#[tactic(auto, using(crate::proofs::EventViews::events_member_view, crate::proofs::SizeViews::size_member_view))]
+#[tactic(auto, using(crate::proofs::EventViews::events_member_view, syntax_trees::proofs::SizeViews::size_member_view))]
 fn gather_member(from: &Member, out: &mut Vec<Event>) -> Result<(), Memory>
     ensures { OnOk result (out.new.items ≡ after (events_member from.now) out.old.items) }
 {
@@ -232,7 +232,7 @@ fn gather_member(from: &Member, out: &mut Vec<Event>) -> Result<(), Memory>
 }
 
 #[cycle(gather)]
-#[tactic(auto, using(crate::proofs::EventViews::events_param_view, crate::proofs::SizeViews::size_param_view))]
+#[tactic(auto, using(crate::proofs::EventViews::events_param_view, syntax_trees::proofs::SizeViews::size_param_view))]
 fn gather_param(from: &Param, out: &mut Vec<Event>) -> Result<(), Memory>
     ensures { OnOk result (out.new.items ≡ after (events_param from.now) out.old.items) }
 {
@@ -250,7 +250,7 @@ fn gather_param(from: &Param, out: &mut Vec<Event>) -> Result<(), Memory>
 }
 
 #[cycle(gather)]
-#[tactic(auto, using(crate::proofs::EventViews::in_params_view, crate::proofs::SizeViews::size_params_view))]
+#[tactic(auto, using(crate::proofs::EventViews::in_params_view, syntax_trees::proofs::SizeViews::size_params_view))]
 fn gather_params(from: &Params, out: &mut Vec<Event>) -> Result<(), Memory>
     ensures { OnOk result (out.new.items ≡ after (in_params from.now).events out.old.items) }
 {
@@ -269,7 +269,7 @@ fn gather_params(from: &Params, out: &mut Vec<Event>) -> Result<(), Memory>
 }
 
 #[cycle(gather)]
-#[tactic(auto, using(crate::proofs::EventViews::in_spec_view, crate::proofs::SizeViews::size_spec_view))]
+#[tactic(auto, using(crate::proofs::EventViews::in_spec_view, syntax_trees::proofs::SizeViews::size_spec_view))]
 fn gather_spec(from: &Spec, out: &mut Vec<Event>) -> Result<(), Memory>
     ensures { OnOk result (out.new.items ≡ after (in_spec from.now).events out.old.items) }
 {
@@ -304,7 +304,7 @@ fn gather_spec(from: &Spec, out: &mut Vec<Event>) -> Result<(), Memory>
 }
 
 #[cycle(gather)]
-#[tactic(auto, using(crate::proofs::EventViews::events_stmt_view, crate::proofs::SizeViews::size_stmt_view))]
+#[tactic(auto, using(crate::proofs::EventViews::events_stmt_view, syntax_trees::proofs::SizeViews::size_stmt_view))]
 fn gather_stmt(from: &Stmt, out: &mut Vec<Event>) -> Result<(), Memory>
     ensures { OnOk result (out.new.items ≡ after (events_stmt from.now) out.old.items) }
 {
@@ -378,7 +378,7 @@ fn gather_stmt(from: &Stmt, out: &mut Vec<Event>) -> Result<(), Memory>
 }
 
 #[cycle(gather)]
-#[tactic(auto, using(crate::proofs::EventViews::events_tree_view, crate::proofs::SizeViews::size_tree_view))]
+#[tactic(auto, using(crate::proofs::EventViews::events_tree_view, syntax_trees::proofs::SizeViews::size_tree_view))]
 fn gather_tree(from: &Tree, out: &mut Vec<Event>) -> Result<(), Memory>
     ensures { OnOk result (out.new.items ≡ after (events_tree from.now) out.old.items) }
 {
@@ -396,7 +396,7 @@ fn gather_tree(from: &Tree, out: &mut Vec<Event>) -> Result<(), Memory>
 }
 
 #[cycle(gather)]
-#[tactic(auto, using(crate::proofs::EventViews::events_block_view, crate::proofs::SizeViews::size_block_view))]
+#[tactic(auto, using(crate::proofs::EventViews::events_block_view, syntax_trees::proofs::SizeViews::size_block_view))]
 fn gather_block(from: &Block, out: &mut Vec<Event>) -> Result<(), Memory>
     ensures { OnOk result (out.new.items ≡ after (events_block from.now) out.old.items) }
 {
@@ -408,7 +408,7 @@ fn gather_block(from: &Block, out: &mut Vec<Event>) -> Result<(), Memory>
 }
 
 #[cycle(gather)]
-#[tactic(auto, using(crate::proofs::EventViews::events_call_view, crate::proofs::SizeViews::size_call_view))]
+#[tactic(auto, using(crate::proofs::EventViews::events_call_view, syntax_trees::proofs::SizeViews::size_call_view))]
 fn gather_call(from: &Call, out: &mut Vec<Event>) -> Result<(), Memory>
     ensures { OnOk result (out.new.items ≡ after (events_call from.now) out.old.items) }
 {
@@ -419,7 +419,7 @@ fn gather_call(from: &Call, out: &mut Vec<Event>) -> Result<(), Memory>
 }
 
 #[cycle(gather)]
-#[tactic(auto, using(crate::proofs::EventViews::events_enumerator_view, crate::proofs::SizeViews::size_enumerator_view))]
+#[tactic(auto, using(crate::proofs::EventViews::events_enumerator_view, syntax_trees::proofs::SizeViews::size_enumerator_view))]
 fn gather_enumerator(from: &Enumerator, out: &mut Vec<Event>) -> Result<(), Memory>
     ensures { OnOk result (out.new.items ≡ after (events_enumerator from.now) out.old.items) }
 {
@@ -429,7 +429,7 @@ fn gather_enumerator(from: &Enumerator, out: &mut Vec<Event>) -> Result<(), Memo
 }
 
 #[cycle(gather)]
-#[tactic(auto, using(crate::proofs::EventViews::events_init_declarator_view, crate::proofs::SizeViews::size_init_declarator_view))]
+#[tactic(auto, using(crate::proofs::EventViews::events_init_declarator_view, syntax_trees::proofs::SizeViews::size_init_declarator_view))]
 fn gather_init_declarator(
     from: &InitDeclarator,
     used: NameUse,
@@ -445,7 +445,7 @@ fn gather_init_declarator(
 }
 
 #[cycle(gather)]
-#[tactic(auto, using(crate::proofs::EventViews::events_member_declarator_view, crate::proofs::SizeViews::size_member_declarator_view))]
+#[tactic(auto, using(crate::proofs::EventViews::events_member_declarator_view, syntax_trees::proofs::SizeViews::size_member_declarator_view))]
 fn gather_member_declarator(
     from: &MemberDeclarator,
     used: NameUse,
@@ -459,7 +459,7 @@ fn gather_member_declarator(
 }
 
 #[cycle(gather)]
-#[tactic(auto, using(crate::proofs::EventViews::in_specs_view, crate::proofs::SizeViews::size_specs_view))]
+#[tactic(auto, using(crate::proofs::EventViews::in_specs_view, syntax_trees::proofs::SizeViews::size_specs_view))]
 fn gather_specs(from: &Specs, out: &mut Vec<Event>) -> Result<(), Memory>
     ensures { OnOk result (out.new.items ≡ after (in_specs from.now).events out.old.items) }
 {
@@ -468,7 +468,7 @@ fn gather_specs(from: &Specs, out: &mut Vec<Event>) -> Result<(), Memory>
 }
 
 #[cycle(gather)]
-#[tactic(auto, using(crate::proofs::EventViews::events_type_name_view, crate::proofs::SizeViews::size_type_name_view))]
+#[tactic(auto, using(crate::proofs::EventViews::events_type_name_view, syntax_trees::proofs::SizeViews::size_type_name_view))]
 fn gather_type_name(from: &TypeName, out: &mut Vec<Event>) -> Result<(), Memory>
     ensures { OnOk result (out.new.items ≡ after (events_type_name from.now) out.old.items) }
 {
@@ -492,7 +492,7 @@ fn gather_named_param(from: &Declarator, typed: bool, out: &mut Vec<Event>) -> R
 
 /// Declares what the parameters next to the name declare in the body of the function.
 #[cycle(gather)]
-#[tactic(auto, using(crate::proofs::EventViews::in_declarator_view, crate::proofs::SizeViews::size_declarator_view))]
+#[tactic(auto, using(crate::proofs::EventViews::in_declarator_view, syntax_trees::proofs::SizeViews::size_declarator_view))]
 fn declare_beside(from: &Declarator, out: &mut Vec<Event>) -> Result<(), Memory>
     ensures { OnOk result (out.new.items ≡ after (in_declarator from.now).beside out.old.items) }
 {
@@ -513,7 +513,7 @@ fn declare_beside(from: &Declarator, out: &mut Vec<Event>) -> Result<(), Memory>
 
 /// Declares what parameters declare outside of inner parameters.
 #[cycle(gather)]
-#[tactic(auto, using(crate::proofs::EventViews::in_params_view, crate::proofs::SizeViews::size_params_view, crate::proofs::Gathered::declared_after))]
+#[tactic(auto, using(crate::proofs::EventViews::in_params_view, syntax_trees::proofs::SizeViews::size_params_view, crate::proofs::Gathered::declared_after))]
 fn declare_params(from: &Params, out: &mut Vec<Event>) -> Result<(), Memory>
     ensures { OnOk result (out.new.items ≡ after (in_params from.now).words out.old.items) }
 {

@@ -23,7 +23,7 @@ use Rattle.syntax_trees.specs.declared.plain.PlainInitDeclarator.{PlainInitDecla
 use Rattle.syntax_trees.specs.declared.plain.PlainMemberDeclarator.{PlainMemberDeclarator}
 use Rattle.syntax_trees.specs.declared.plain.PlainSpecs.{PlainSpecs}
 use Rattle.syntax_trees.specs.declared.plain.PlainTypeName.{PlainTypeName}
-use Rattle.syntax_trees.specs.Standings.{every, some, is_empty, is_there, is_filled, holds, hold, is_body, is_perhaps_one, is_one_decl, valid_of, valid_of_decl, valid_of_stmt, valid_of_argument, valid_specs, are_of_kind, is_tree_of_kind, is_listed_held_exp, is_listed_held_init, is_listed_decl, none_listed_decls, standing_argument, is_valid_argument, standing_body, is_valid_body, standing_decl, is_valid_decl, standing_declarator, is_valid_declarator, standing_exp, is_valid_exp, standing_init, is_valid_init, standing_item, is_valid_item, standing_member, is_valid_member, standing_param, is_valid_param, standing_params, is_valid_params, standing_spec, is_valid_spec, standing_stmt, is_valid_stmt, standing_tree, is_valid_tree, standing_block, is_valid_block, standing_call, is_valid_call, standing_enumerator, is_valid_enumerator, standing_init_declarator, is_valid_init_declarator, standing_member_declarator, is_valid_member_declarator, standing_specs, is_valid_specs, standing_type_name, is_valid_type_name}
+use Rattle.syntax_trees.specs.Standings.{every, is_empty, is_there, is_filled, holds, hold, is_body, is_perhaps_one, is_one_decl, valid_of, valid_of_decl, valid_of_stmt, valid_of_argument, valid_specs, are_of_kind, is_tree_of_kind, is_listed_held_exp, is_listed_held_init, is_listed_decl, none_listed_decls, standing_argument, is_valid_argument, standing_body, is_valid_body, standing_decl, is_valid_decl, standing_declarator, is_valid_declarator, standing_exp, is_valid_exp, standing_init, is_valid_init, standing_item, is_valid_item, standing_member, is_valid_member, standing_param, is_valid_param, standing_params, is_valid_params, standing_spec, is_valid_spec, standing_stmt, is_valid_stmt, standing_tree, is_valid_tree, standing_block, is_valid_block, standing_call, is_valid_call, standing_enumerator, is_valid_enumerator, standing_init_declarator, is_valid_init_declarator, standing_member_declarator, is_valid_member_declarator, standing_specs, is_valid_specs, standing_type_name, is_valid_type_name}
 
 pub empty_map : {A B : Type 0} (f : A → B) (xs : List A) → is_empty (map f xs) ≡ is_empty xs
 empty_map f [] = refl

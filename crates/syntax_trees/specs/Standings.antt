@@ -36,10 +36,6 @@ abbrev pub every : List Bool → Bool
 every [] = true
 every (b ∷ bs) = b && every bs
 
-abbrev pub some : List Bool → Bool
-some [] = false
-some (b ∷ bs) = b || some bs
-
 abbrev pub is_empty : {A : Type 0} → List A → Bool
 is_empty [] = true
 is_empty (x ∷ xs) = false

@@ -1,2 +1,3 @@
+pub mod FormViews
 pub mod Filled
-pub mod Pure
+pub mod Kept

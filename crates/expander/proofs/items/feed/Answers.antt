@@ -3,10 +3,10 @@ use Rattle.expander.proofs.Progress.{Progress, begun, taken, nearer, within, not
 use Rattle.expander.proofs.items.feed.Goals as goal
 
 pub items-init : goal.items-init
-items-init c = subst (λ x. Progress c.args.words.now c.args.tokens.now None x 0) (sym c.new-written.ensures) (begun c.args.words.now c.args.tokens.now)
+items-init c = record { progress = subst (λ x. Progress c.args.words.now c.args.tokens.now None x 0) (sym c.new-written.ensures) (begun c.args.words.now c.args.tokens.now); ready = tt }
 
 pub items-preserved : goal.items-preserved
-items-preserved c = taken _ _ _ _ _ _ _ _ c.items.invariant c.in_ok-at.ensures.taken
+items-preserved c = record { progress = taken _ _ _ _ _ _ _ _ c.items.invariant.progress c.in_ok-at.ensures.taken; ready = c.in_ok-at.ensures.ready }
 
 pub items-smaller : goal.items-smaller
 items-smaller c =

@@ -3,11 +3,15 @@ use Rattle.c_parser.proofs.Distinct.{distinct}
 use Rattle.c_printer.specs.Layout.{layout}
 use Rattle.c_printer.specs.ReadBack.{IsReadBack}
 use Rattle.ms2_top.specs.Outcomes.{IsTextOf}
+use Rattle.ms2_top.proofs.Counted.{few_tokens}
 use Rattle.ms2_top.proofs.Translated.{known_there, is_text_there, is_stop_there, as_outcome}
 use Rattle.ms2_top.proofs.source.translate.Goals as goal
 
 pub feed-requires : goal.feed-requires
-feed-requires c = record { known = known_there c.args.bytes.now c.args.words.now c.requires.table c.args.tokens.now c.requires.lexed }
+feed-requires c = record {
+  known = known_there c.args.bytes.now c.args.words.now c.requires.table c.args.tokens.now c.requires.lexed;
+  few = few_tokens c.args.words.now c.args.bytes.now c.args.tokens.now c.requires.lexed c.requires.size;
+}
 
 pub returns-in_ok-text-in-Ok : goal.returns-in_ok-text-in-Ok
 returns-in_ok-text-in-Ok c =

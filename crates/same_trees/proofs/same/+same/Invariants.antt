@@ -22,7 +22,7 @@ use Rattle.syntax_trees.specs.declared.plain.PlainSpecs.{size-PlainSpecs}
 use Rattle.syntax_trees.specs.declared.plain.PlainTypeName.{size-PlainTypeName}
 use Rattle.same_trees.specs.Leaves.{same_all}
 use Rattle.same_trees.specs.Same.{same_argument, same_decl, same_enumerator, same_exp, same_init, same_init_declarator, same_member, same_member_declarator, same_param, same_spec, same_stmt, same_tree}
-use Rattle.same_trees.proofs.SizeViews.{held_size, held_most}
+use Rattle.syntax_trees.proofs.SizeViews.{held_size, held_most}
 use Rattle.same_trees.proofs.same.+same.Given as goal
 
 abbrev pub invariant-are_same_arguments-loop-at : goal.invariant-are_same_arguments-loop-at

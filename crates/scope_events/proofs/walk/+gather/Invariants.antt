@@ -23,7 +23,7 @@ use Rattle.syntax_trees.specs.declared.plain.PlainTypeName.{size-PlainTypeName}
 use Rattle.scope_events.specs.Events.{all}
 use Rattle.scope_events.specs.Gathered.{after}
 use Rattle.scope_events.specs.TreeEvents.{together, each_declared, each_member, events_argument, events_decl, events_enumerator, events_exp, events_init, events_init_declarator, events_member, events_member_declarator, events_param, in_spec, events_stmt, events_tree}
-use Rattle.scope_events.proofs.SizeViews.{held_size}
+use Rattle.syntax_trees.proofs.SizeViews.{held_size}
 use Rattle.scope_events.proofs.walk.+gather.Given as goal
 
 abbrev pub invariant-gather_arguments-loop-one : goal.invariant-gather_arguments-loop-one
