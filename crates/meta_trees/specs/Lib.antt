@@ -1,0 +1,13 @@
+pub mod CodeViews
+pub mod StepsViews
+pub mod CodeMeasures
+pub mod LinesMeasures
+pub mod StepsMeasures
+pub mod DefsMeasures
+pub mod Shapes
+pub mod CodeStandings
+pub mod LinesStandings
+pub mod StepsStandings
+pub mod DefsStandings
+pub mod CodeFalls
+pub mod StepsFalls

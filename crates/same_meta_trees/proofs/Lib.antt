@@ -1,0 +1,6 @@
+mod Lengths
+mod CodeSameViews
+mod CodeSizeViews
+mod StepsSameViews
+mod StepsSizeViews
+mod PatternSameViews
