@@ -3,7 +3,7 @@ use Rattle.std.proofs.Common.{◌≡◌, inl, inr, ℕ, ◌<◌, ◌≤◌, List
 use Rattle.std.proofs.lemmas.Bool.{cases_lt}
 use Rattle.c_tokens.specs.declared.token.Word.{Word}
 use Rattle.c_tokens.specs.declared.token.Token.{Token}
-use Rattle.c_trees.specs.declared.first.Item.{Item}
+use Rattle.c_trees.specs.declared.first.FirstItem.{FirstItem}
 use Rattle.c_grammar.specs.declared.refusal.Refusal.TheVariants.{Syntax, TooDeep}
 use Rattle.c_grammar.specs.Words.{AreDistinct}
 use Rattle.c_grammar.specs.Reader.{Outcome}
@@ -14,16 +14,16 @@ use Rattle.c_grammar.proofs.Live.{Before}
 use Rattle.c_grammar.proofs.Dead.{dead, too_deep}
 use Rattle.c_grammar.proofs.Completed.{begun, completed}
 
-refuses : (o : Outcome Item) (k p : ℕ) → o ≡ Err (Syntax k) → p < k → Before p o
+refuses : (o : Outcome FirstItem) (k p : ℕ) → o ≡ Err (Syntax k) → p < k → Before p o
 refuses o k p e less = rw e less
 
-lacks : (o : Outcome Item) (k : ℕ) → o ≡ Err (TooDeep k) → Before k o
+lacks : (o : Outcome FirstItem) (k : ℕ) → o ≡ Err (TooDeep k) → Before k o
 lacks o k e = let same : k ≤ k = omega arith in rw e same
 
-refused_after : (w : List Token) (i k : ℕ) (o : Outcome Item) → o ≡ Err (Syntax k) → Onward w i o → i ≤ k
+refused_after : (w : List Token) (i k : ℕ) (o : Outcome FirstItem) → o ≡ Err (Syntax k) → Onward w i o → i ≤ k
 refused_after w i k o e h = rw e at h
 
-deep_after : (w : List Token) (i k : ℕ) (o : Outcome Item) → o ≡ Err (TooDeep k) → Onward w i o → i ≤ k
+deep_after : (w : List Token) (i k : ℕ) (o : Outcome FirstItem) → o ≡ Err (TooDeep k) → Onward w i o → i ≤ k
 deep_after w i k o e h = rw e at h
 
 module _ (d : ℕ) (names : List (List ℕ)) (m : Option Word) (w : List Token) (i k : ℕ) (known : AreKnown names w) (distinct : AreDistinct names) where

@@ -13,8 +13,8 @@ use Rattle.c_tokens.specs.declared.token.Mark.TheVariants as mark
 use Rattle.syntax_trees.specs.declared.plain.PlainExp.{PlainExp}
 use Rattle.c_trees.specs.declared.first.Declaration.{Declaration}
 use Rattle.c_trees.specs.declared.first.First.{First}
-use Rattle.c_trees.specs.declared.first.Item.{Item}
-use Rattle.c_trees.specs.declared.first.Item.TheVariants as item
+use Rattle.c_trees.specs.declared.first.FirstItem.{FirstItem}
+use Rattle.c_trees.specs.declared.first.FirstItem.TheVariants as item
 use Rattle.c_grammar.specs.declared.context.Context.{Context}
 use Rattle.c_grammar.specs.declared.context.Context.TheVariants.{InItem, InTemplate}
 use Rattle.c_grammar.specs.Words.{is_exp, text_of}
@@ -116,7 +116,7 @@ module _ (w : List Token) where
       rw (A.front.1.0, A.front.1.1.0, A.front.1.1.1, pattern_read d w names S.kind t.binder A.middle B.middle known B.front, template)
 
   -- what spells an item is read
-  pub item_read : (d : ℕ) (names : List (List ℕ)) (m : Option Word) (h : ℕ) (t : Item) (i j : ℕ) → SpellsItem h w names m t i j → h ≤ d
+  pub item_read : (d : ℕ) (names : List (List ℕ)) (m : Option Word) (h : ℕ) (t : FirstItem) (i j : ℕ) → SpellsItem h w names m t i j → h ≤ d
       → read d (an_item names m) (from w i) ≡ Ok (t, from w j)
   unfolding an_item
   item_read d names m h (item.Declaration t) i j S le = rw S.begins.0 (declaration_read d w m h t i j le S)

@@ -4,8 +4,8 @@ use Rattle.c_tokens.specs.declared.token.Word.{Word}
 use Rattle.c_tokens.specs.declared.token.Token.{Token}
 use Rattle.syntax_trees.specs.Levels.{ExpParts}
 use Rattle.syntax_trees.specs.declared.plain.PlainExp.{PlainExp, PlainExp-F, out-PlainExp}
-use Rattle.c_trees.specs.declared.first.Item.{Item}
-use Rattle.c_trees.specs.declared.first.Item.TheVariants as item
+use Rattle.c_trees.specs.declared.first.FirstItem.{FirstItem}
+use Rattle.c_trees.specs.declared.first.FirstItem.TheVariants as item
 use Rattle.c_grammar.specs.declared.context.Context.{Context}
 use Rattle.c_grammar.specs.declared.context.Context.TheVariants.{InItem, InArgument}
 use Rattle.std.proofs.Common.{Option}
@@ -54,7 +54,7 @@ raise (suc h) (suc k) w c m n t i j up le (inl S) = inl (node_map (Unit {0}) (Un
 raise (suc h) (suc k) w c m n t i j up le (inr W) = inr (wraps_map (Spells h w c 1 t) (Spells k w c 1 t) (λ i j. raise h k w c 1 1 t i j (omega arith) (omega arith)) w i j W)
 
 -- more depth, for an item
-pub raise_item : (h k : ℕ) (w : List Token) (names : List (List ℕ)) (m : Option Word) (t : Item) (i j : ℕ) → h ≤ k → SpellsItem h w names m t i j → SpellsItem k w names m t i j
+pub raise_item : (h k : ℕ) (w : List Token) (names : List (List ℕ)) (m : Option Word) (t : FirstItem) (i j : ℕ) → h ≤ k → SpellsItem h w names m t i j → SpellsItem k w names m t i j
 raise_item h k w names m (item.Declaration t) i j up S = record {
   begins = S.begins;
   free = S.free;

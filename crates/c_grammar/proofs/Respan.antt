@@ -11,8 +11,8 @@ use Rattle.c_tokens.specs.declared.token.Mark.TheVariants as mark
 use Rattle.syntax_trees.specs.Levels.{ExpParts, level_with}
 use Rattle.syntax_trees.specs.declared.plain.PlainExp.{PlainExp, PlainExp-F, out-PlainExp, roll-PlainExp, out-roll-PlainExp}
 use Rattle.c_trees.specs.Calls.{first_call_of, first_place}
-use Rattle.c_trees.specs.declared.first.Item.{Item}
-use Rattle.c_trees.specs.declared.first.Item.TheVariants as item
+use Rattle.c_trees.specs.declared.first.FirstItem.{FirstItem}
+use Rattle.c_trees.specs.declared.first.FirstItem.TheVariants as item
 use Rattle.c_grammar.specs.declared.context.Context.{Context}
 use Rattle.c_grammar.specs.declared.context.Context.TheVariants.{InItem, InArgument, InTemplate}
 use Rattle.c_grammar.specs.Laws.{Agree}
@@ -71,7 +71,7 @@ module _ (v w : List Token) (same : (k : ℕ) → shape_at v k ≡ shape_at w k)
       (A.0, inr (record { last = W.last; opens = at i _ W.opens; within = A.1; closes = at W.last _ W.closes; ends = W.ends }))
 
   -- and an item
-  pub item_again : (d : ℕ) (names : List (List ℕ)) (m : Option Word) (t : Item) (i j : ℕ) → SpellsItem d v names m t i j → (r : Item) × SpellsItem d w names m r i j
+  pub item_again : (d : ℕ) (names : List (List ℕ)) (m : Option Word) (t : FirstItem) (i j : ℕ) → SpellsItem d v names m t i j → (r : FirstItem) × SpellsItem d w names m r i j
   item_again d names m (item.Declaration t) i j S =
       let A = expression_again d (InItem m) 2 t.value (i + 3) S.last S.value in (
         item.Declaration (record { name = t.name; value = A.0 }),

@@ -9,7 +9,7 @@ use Rattle.c_tokens.specs.declared.token.Key.TheVariants as key
 use Rattle.c_tokens.specs.declared.token.Punct.TheVariants as punct
 use Rattle.c_tokens.specs.declared.token.Mark.TheVariants as mark
 use Rattle.syntax_trees.specs.declared.plain.PlainExp.{PlainExp}
-use Rattle.c_trees.specs.declared.first.Item.{Item}
+use Rattle.c_trees.specs.declared.first.FirstItem.{FirstItem}
 use Rattle.c_grammar.specs.declared.context.Context.{Context}
 use Rattle.c_grammar.specs.declared.context.Context.TheVariants.{InItem, InTemplate}
 use Rattle.c_grammar.specs.Words.{is_identifier, text_of}
@@ -160,7 +160,7 @@ record Bound (shape : Word → Word → List Shape) (names : List (List ℕ)) (x
 -- ---- the readers
 
 module _ (w : List Token) where
-  declared : (d : ℕ) (names : List (List ℕ)) (m : Option Word) (i : ℕ) (t : Item) (j : ℕ) → shape_at w i ≡ s.Key key.Int → Derives (Called d w) d w (declaration m) (i + 1) t j → SpellsItem d w names m t i j
+  declared : (d : ℕ) (names : List (List ℕ)) (m : Option Word) (i : ℕ) (t : FirstItem) (j : ℕ) → shape_at w i ≡ s.Key key.Int → Derives (Called d w) d w (declaration m) (i + 1) t j → SpellsItem d w names m t i j
   unfolding declaration
   declared d names m i t j int (n, (a, (_, (name, (u, (b, (_, (equals, (v, (k, (value, (_, (u1, (l, (_, (semi, (same, end))))))))))))))))) =
       let N : (shape_at w (i + 1) ≡ s.Word n) × (is_identifier (InItem m) n ≡ true) = identifier (InItem m) (shape_at w (i + 1)) n name.0 in
@@ -246,7 +246,7 @@ module _ (w : List Token) where
       record { inner = Q.inner; deep = Q.deep; start = Q.start; begins = put (s.Punct punct.LeftBrace) i q refl Q.begins; last = Q.last; template = Q.template; ends = Q.ends }
   block_at d x i t j _ q D = absurd D
 
-  defined_at : (d : ℕ) (names : List (List ℕ)) (i : ℕ) (t : Item) (j : ℕ) → shape_at w i ≡ s.Mark mark.Syntax → Derives (Called d w) d w (definition names) (i + 1) t j → SpellsItem d w names None t i j
+  defined_at : (d : ℕ) (names : List (List ℕ)) (i : ℕ) (t : FirstItem) (j : ℕ) → shape_at w i ≡ s.Mark mark.Syntax → Derives (Called d w) d w (definition names) (i + 1) t j → SpellsItem d w names None t i j
   unfolding definition block
   defined_at d names i t j syntax (u, (a, (_, (result_at, (n, (b, (_, (name, (x, (c, (_, (inside, (v, (e, (_, (template, (same, end))))))))))))))))) =
       let B : Bound pattern_row names x w b c = pattern_at d names b x c inside in
@@ -268,14 +268,14 @@ module _ (w : List Token) where
         },
       )
 
-  item_at : (d : ℕ) (names : List (List ℕ)) (m : Option Word) (i : ℕ) (t : Item) (j : ℕ) (y : Shape) → shape_at w i ≡ y → Derives (Called d w) d w (item_by names m y) i t j → SpellsItem d w names m t i j
+  item_at : (d : ℕ) (names : List (List ℕ)) (m : Option Word) (i : ℕ) (t : FirstItem) (j : ℕ) (y : Shape) → shape_at w i ≡ y → Derives (Called d w) d w (item_by names m y) i t j → SpellsItem d w names m t i j
   item_at d names m i t j (s.Key key.Int) q D = declared d names m i t j q D
   item_at d names None i t j (s.Mark mark.Syntax) q D = defined_at d names i t j q D
   item_at d names (Some n) i t j (s.Mark mark.Syntax) q D = absurd D
   item_at d names m i t j _ q D = absurd D
 
   -- what is read as an item is spelled as one
-  pub sound_item : (d : ℕ) (names : List (List ℕ)) (m : Option Word) (i : ℕ) (t : Item) (p : Input) → read d (an_item names m) (from w i) ≡ Ok (t, p)
+  pub sound_item : (d : ℕ) (names : List (List ℕ)) (m : Option Word) (i : ℕ) (t : FirstItem) (p : Input) → read d (an_item names m) (from w i) ≡ Ok (t, p)
       → (j : ℕ) × ((p ≡ from w j) × SpellsItem d w names m t i j)
   unfolding an_item
   sound_item d names m i t p h =

@@ -3,7 +3,7 @@ use Rattle.std.proofs.Common.{◌≡◌, ap, sym, ◌∙◌, ℕ, ◌<◌, max, 
 use Rattle.c_tokens.specs.declared.token.Word.{Word}
 use Rattle.c_tokens.specs.declared.token.Token.{Token}
 use Rattle.syntax_trees.specs.declared.plain.PlainExp.{PlainExp}
-use Rattle.c_trees.specs.declared.first.Item.{Item}
+use Rattle.c_trees.specs.declared.first.FirstItem.{FirstItem}
 use Rattle.c_grammar.specs.declared.context.Context.{Context}
 use Rattle.c_grammar.specs.Reader.{Found, shape_at}
 use Rattle.c_grammar.specs.Grammar.{binds}
@@ -23,7 +23,7 @@ one_expression w c least h k t u i j l q r S T =
     (ap (λ (x : Found). x.0) (same_answer (t, A.height) (u, B.height) (from w j) (from w l) e), ap (λ i. i.at) (same_place (t, A.height) (u, B.height) (from w j) (from w l) e))
 
 -- two items of any depths from one place are one
-pub one_item : (w : List Token) (names : List (List ℕ)) (m : Option Word) (h k : ℕ) (t u : Item) (i j l : ℕ)
+pub one_item : (w : List Token) (names : List (List ℕ)) (m : Option Word) (h k : ℕ) (t u : FirstItem) (i j l : ℕ)
     → SpellsItem h w names m t i j → SpellsItem k w names m u i l → (t ≡ u) × (j ≡ l)
 one_item w names m h k t u i j l S T =
     let e : answers t (from w j) ≡ answers u (from w l) = sym (item_read w (max h k) names m h t i j S (omega arith)) ∙ item_read w (max h k) names m k u i l T (omega arith) in

@@ -12,8 +12,8 @@ use Rattle.c_tokens.specs.declared.span.Span.{Span}
 use Rattle.syntax_trees.specs.declared.parts.BinaryOperator.TheVariants as o
 use Rattle.syntax_trees.specs.declared.plain.PlainExp.TheVariants as e
 use Rattle.c_trees.specs.Calls.{first_call, first_hole}
-use Rattle.c_trees.specs.declared.first.Item.{Item}
-use Rattle.c_trees.specs.declared.first.Item.TheVariants as item
+use Rattle.c_trees.specs.declared.first.FirstItem.{FirstItem}
+use Rattle.c_trees.specs.declared.first.FirstItem.TheVariants as item
 use Rattle.c_grammar.specs.declared.refusal.Refusal.TheVariants.{Syntax, TooDeep}
 use Rattle.c_grammar.specs.Reader.{loop}
 use Rattle.c_grammar.specs.Grammar.{read, below, expression, primary, climb, longer, parenthesized, closed, called, placed, quoted, quote, meta_block, block, bound, pattern, definition, declaration, an_item}
@@ -43,7 +43,7 @@ definition_tokens = tokens (s.Mark mark.Syntax ∷ s.Mark mark.Exp ∷ s.Word (n
     ∷ s.Punct punct.LeftBrace ∷ s.Key key.Return ∷ s.Mark mark.QuoteParen ∷ s.Mark mark.Hole ∷ s.Word (number 2) ∷ s.Punct punct.Star ∷ s.Int (number 3)
     ∷ s.Punct punct.RightParen ∷ s.Punct punct.Semicolon ∷ s.Punct punct.RightBrace ∷ [])
 
-abbrev definition_tree : Item
+abbrev definition_tree : FirstItem
 definition_tree = item.Definition (record { name = number 1; binder = number 2; template = e.Binary o.Multiply (first_hole (from_to 60 67)) (e.Int (number 3) (from_to 72 75)) (from_to 60 75) })
 
 -- `int a = twice((2)) + x;`
@@ -51,7 +51,7 @@ abbrev declaration_tokens : List Token
 declaration_tokens = tokens (s.Key key.Int ∷ s.Word (number 4) ∷ s.Punct punct.Equal ∷ s.Word (number 1) ∷ s.Punct punct.LeftParen ∷ s.Punct punct.LeftParen ∷ s.Int (number 3)
     ∷ s.Punct punct.RightParen ∷ s.Punct punct.RightParen ∷ s.Punct punct.Plus ∷ s.Word (number 2) ∷ s.Punct punct.Semicolon ∷ [])
 
-abbrev declaration_tree : Item
+abbrev declaration_tree : FirstItem
 declaration_tree = item.Declaration (record { name = number 4; value = e.Binary o.Add (first_call (e.Int (number 3) (from_to 24 27)) (from_to 20 31) (from_to 12 35)) (e.Name (number 2) (from_to 40 43)) (from_to 12 43) })
 
 -- the template counts two, its body and its mark one each

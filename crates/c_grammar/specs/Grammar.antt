@@ -12,8 +12,8 @@ use Rattle.syntax_trees.specs.declared.parts.BinaryOperator.TheVariants as o
 use Rattle.syntax_trees.specs.declared.plain.PlainExp.{PlainExp}
 use Rattle.syntax_trees.specs.declared.plain.PlainExp.TheVariants as e
 use Rattle.c_trees.specs.Calls.{first_hole, first_call}
-use Rattle.c_trees.specs.declared.first.Item.{Item}
-use Rattle.c_trees.specs.declared.first.Item.TheVariants as item
+use Rattle.c_trees.specs.declared.first.FirstItem.{FirstItem}
+use Rattle.c_trees.specs.declared.first.FirstItem.TheVariants as item
 use Rattle.c_grammar.specs.declared.context.Context.{Context}
 use Rattle.c_grammar.specs.declared.refusal.Refusal.TheVariants.{TooDeep}
 use Rattle.c_grammar.specs.Words.{is_identifier, callee, binder, is_exp}
@@ -232,7 +232,7 @@ pattern names = do
   Give name
 
 -- after `@syntax`
-unfoldable pub definition : List (List ℕ) → Reader Item
+unfoldable pub definition : List (List ℕ) → Reader FirstItem
 definition names = do
   token is_result
   name ← Pick word_of
@@ -241,7 +241,7 @@ definition names = do
   Give (item.Definition (record { name = name; binder = binder; template = template }))
 
 -- after `int`
-unfoldable pub declaration : Option Word → Reader Item
+unfoldable pub declaration : Option Word → Reader FirstItem
 declaration m = do
   name ← Pick (identifier_of (InItem m))
   token is_equal
@@ -249,15 +249,15 @@ declaration m = do
   token is_semicolon
   Give (item.Declaration (record { name = name; value = value.0 }))
 
-abbrev pub defined : List (List ℕ) → Option Word → Reader Item
+abbrev pub defined : List (List ℕ) → Option Word → Reader FirstItem
 defined names (Some m) = Refuse
 defined names None = Next (definition names)
 
-abbrev pub item_by : List (List ℕ) → Option Word → Shape → Reader Item
+abbrev pub item_by : List (List ℕ) → Option Word → Shape → Reader FirstItem
 item_by names m (s.Key key.Int) = Next (declaration m)
 item_by names m (s.Mark mark.Syntax) = defined names m
 item_by names m _ = Refuse
 
 -- the next item, where `m` names the macro that is defined
-unfoldable pub an_item : List (List ℕ) → Option Word → Reader Item
+unfoldable pub an_item : List (List ℕ) → Option Word → Reader FirstItem
 an_item names m = Look (item_by names m)

@@ -5,7 +5,7 @@ use Rattle.c_tokens.specs.declared.token.Token.{Token}
 use Rattle.c_tokens.specs.declared.token.Shape.{Shape}
 use Rattle.c_tokens.specs.declared.token.Shape.TheVariants as s
 use Rattle.c_trees.specs.Named.{names_word, names_integer}
-use Rattle.c_trees.specs.declared.first.Item.{Item}
+use Rattle.c_trees.specs.declared.first.FirstItem.{FirstItem}
 use Rattle.c_grammar.specs.Words.{AreDistinct}
 use Rattle.c_grammar.specs.Reader.{shape_at}
 use Rattle.c_grammar.specs.Spells.{SpellsItem}
@@ -30,7 +30,7 @@ AreKnown names w = (k : ℕ) → IsKnown names (shape_at w k)
 pub record Reading (Allowed : ℕ → Type 0) (names : List (List ℕ)) (m : Option Word) (w : List Token) (i : ℕ) : Type 0 where
   pub depth : ℕ
   pub allowed : Allowed depth
-  pub tree : Item
+  pub tree : FirstItem
   pub after : ℕ
   pub spelled : SpellsItem depth w names m tree i after
 

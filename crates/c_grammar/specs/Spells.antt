@@ -18,8 +18,8 @@ use Rattle.c_trees.specs.Built.{is_read}
 use Rattle.c_trees.specs.Calls.{first_call_of, first_place}
 use Rattle.c_trees.specs.declared.first.Declaration.{Declaration}
 use Rattle.c_trees.specs.declared.first.First.{First}
-use Rattle.c_trees.specs.declared.first.Item.{Item}
-use Rattle.c_trees.specs.declared.first.Item.TheVariants as item
+use Rattle.c_trees.specs.declared.first.FirstItem.{FirstItem}
+use Rattle.c_trees.specs.declared.first.FirstItem.TheVariants as item
 use Rattle.c_grammar.specs.declared.context.Context.{Context}
 use Rattle.c_grammar.specs.declared.context.Context.TheVariants.{InItem, InArgument, InTemplate}
 use Rattle.c_grammar.specs.Words.{is_identifier, callee, binder, text_of}
@@ -135,6 +135,6 @@ pub record SpellsDefinition (d : ℕ) (w : List Token) (names : List (List ℕ))
   pub ends : Stand (s.Punct punct.RightParen ∷ s.Punct punct.Semicolon ∷ s.Punct punct.RightBrace ∷ []) w last j
 
 -- the next item, where `m` names the macro that is defined, and a second definition is none
-abbrev pub SpellsItem : ℕ → List Token → List (List ℕ) → Option Word → Item → ℕ → ℕ → Type 0
+abbrev pub SpellsItem : ℕ → List Token → List (List ℕ) → Option Word → FirstItem → ℕ → ℕ → Type 0
 SpellsItem d w names m (item.Declaration t) i j = SpellsDeclaration d w m t i j
 SpellsItem d w names m (item.Definition t) i j = (m ≡ None) × SpellsDefinition d w names t i j

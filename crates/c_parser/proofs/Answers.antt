@@ -2,7 +2,7 @@
 use Rattle.std.proofs.Common.{◌≡◌, ◌≢◌, refl, sym, subst, ap, ◌∙◌, ℕ, ◌≤◌, List, Option, Result, Ok, Err}
 use Rattle.c_tokens.specs.declared.token.Word.{Word}
 use Rattle.c_tokens.specs.declared.token.Token.{Token}
-use Rattle.c_trees.specs.declared.first.Item.{Item}
+use Rattle.c_trees.specs.declared.first.FirstItem.{FirstItem}
 use Rattle.c_grammar.specs.declared.refusal.Refusal.{Refusal}
 use Rattle.c_grammar.specs.declared.refusal.Refusal.TheVariants.{Memory, Syntax, TooDeep}
 use Rattle.c_grammar.specs.Words.{AreDistinct}
@@ -16,24 +16,24 @@ use Rattle.c_grammar.proofs.Items.{item_read}
 use Rattle.c_grammar.proofs.SoundItems.{sound_item}
 use Rattle.c_grammar.proofs.Answered.{first_dead, only_deep}
 
-abbrev pub both : Item → ℕ → Item × ℕ
+abbrev pub both : FirstItem → ℕ → FirstItem × ℕ
 both t k = (t, k)
 
 module _ (d : ℕ) (names : List (List ℕ)) (m : Option Word) (w : List Token) (i : ℕ) where
   -- what is read is spelled
-  pub spelled : (t : Item) (p : Input) → read d (an_item names m) (from w i) ≡ Ok (t, p) → SpellsItem d w names m t i p.at
+  pub spelled : (t : FirstItem) (p : Input) → read d (an_item names m) (from w i) ≡ Ok (t, p) → SpellsItem d w names m t i p.at
   spelled t p e =
       let S = sound_item w d names m i t p e in
       subst (λ j. SpellsItem d w names m t i j) (sym (ap (λ k. k.at) S.1.0)) S.1.1
 
   -- and it is all that is spelled
-  pub only_one : (t : Item) (p : Input) (h : ℕ) (u : Item) (j : ℕ) → read d (an_item names m) (from w i) ≡ Ok (t, p) → SpellsItem h w names m u i j → h ≤ d → both t p.at ≡ both u j
+  pub only_one : (t : FirstItem) (p : Input) (h : ℕ) (u : FirstItem) (j : ℕ) → read d (an_item names m) (from w i) ≡ Ok (t, p) → SpellsItem h w names m u i j → h ≤ d → both t p.at ≡ both u j
   only_one t p h u j e S le =
       let twice : Ok (t, p) ≡ Ok (u, from w j) = sym e ∙ item_read w d names m h u i j S le in
       ap (λ x. both x p.at) (same_answer t u p (from w j) twice) ∙ ap (λ k. both u k.at) (same_place t u p (from w j) twice)
 
   -- what is spelled is refused only for want of memory
-  pub only_memory : (e : Refusal) (h : ℕ) (u : Item) (j : ℕ) → (e ≢ Memory → read d (an_item names m) (from w i) ≡ Err e) → SpellsItem h w names m u i j → h ≤ d → e ≡ Memory
+  pub only_memory : (e : Refusal) (h : ℕ) (u : FirstItem) (j : ℕ) → (e ≢ Memory → read d (an_item names m) (from w i) ≡ Err e) → SpellsItem h w names m u i j → h ≤ d → e ≡ Memory
   only_memory Memory h u j reads S le = refl
   only_memory (Syntax k) h u j reads S le = let x = sym (reads (λ x. absurd cc)) ∙ item_read w d names m h u i j S le in absurd cc
   only_memory (TooDeep k) h u j reads S le = let x = sym (reads (λ x. absurd cc)) ∙ item_read w d names m h u i j S le in absurd cc

@@ -15,7 +15,7 @@ use crate::tokens::{
 };
 use c_grammar::{Context, Refusal};
 use c_tokens::{Key, Mark, Punct, Shape, Word, Words};
-use c_trees::{Declaration, Exp, First, Item};
+use c_trees::{Declaration, Exp, First, FirstItem};
 use std::alloc::Global;
 
 /// What follows the mark of a template.
@@ -118,7 +118,7 @@ fn definition(
     cursor: &mut Cursor<'_>,
     depth: usize,
     words: &Words,
-) -> Result<Item, Refusal>
+) -> Result<FirstItem, Refusal>
     requires known { AreKnown words.now cursor.old.tokens }
     requires depth { depth ≤ 1000 }
     ensures { Reads (read depth (spec.definition words.now) cursor.old) result cursor.new }
@@ -127,7 +127,7 @@ fn definition(
     let name = word(cursor)?;
     let binder = pattern(cursor, depth, words)?;
     let template = block(alloc, cursor, depth, binder)?;
-    Ok(Item::Definition(First {
+    Ok(FirstItem::Definition(First {
         name,
         binder,
         template,
@@ -141,7 +141,7 @@ fn declaration(
     cursor: &mut Cursor<'_>,
     depth: usize,
     first: Option<Word>,
-) -> Result<Item, Refusal>
+) -> Result<FirstItem, Refusal>
     requires depth { depth ≤ 1000 }
     ensures { Reads (read depth (spec.declaration first) cursor.old) result cursor.new }
 {
@@ -150,7 +150,7 @@ fn declaration(
     cursor.take_if(is_equal(cursor.peek()))?;
     let (value, _height) = expression(alloc, context, cursor, depth, 2)?;
     cursor.take_if(is_semicolon(cursor.peek()))?;
-    Ok(Item::Declaration(Declaration { name, value }))
+    Ok(FirstItem::Declaration(Declaration { name, value }))
 }
 
 /// The next item, where `first` names the macro that is defined.
@@ -161,7 +161,7 @@ pub fn item(
     depth: usize,
     first: Option<Word>,
     words: &Words,
-) -> Result<Item, Refusal>
+) -> Result<FirstItem, Refusal>
     requires known { AreKnown words.now cursor.old.tokens }
     requires depth { depth ≤ 1000 }
     ensures reads { Reads (read depth (spec.an_item words.now first) cursor.old) result cursor.new }

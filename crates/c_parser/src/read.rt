@@ -1,7 +1,7 @@
 //! The next item of a list of tokens.
 
 ghost use Rattle.std.specs.Prelude.{◌≡◌, ◌≤◌, ℕ, IfOk, IfErr};
-ghost use Rattle.c_trees.specs.declared.first.Item as tree;
+ghost use Rattle.c_trees.specs.declared.first.FirstItem as tree;
 ghost use Rattle.c_grammar.specs.Laws.{AreKnown, IsFirstDead, IsTooDeep};
 ghost use Rattle.c_grammar.specs.Spells.{SpellsItem};
 ghost use Rattle.c_parser.specs.Answers.{Gives};
@@ -11,7 +11,7 @@ use crate::cursor::Cursor;
 use crate::item::item;
 use c_grammar::Refusal;
 use c_tokens::{Token, Word, Words};
-use c_trees::{First, Item};
+use c_trees::{First, FirstItem};
 use std::alloc::Global;
 
 /// The greatest depth of an item that is read.
@@ -25,10 +25,10 @@ pub fn read_item(
     at: usize,
     first: Option<&First>,
     words: &Words,
-) -> Result<(Item, usize), Refusal>
+) -> Result<(FirstItem, usize), Refusal>
     requires known { AreKnown words.now tokens.now }
     ensures read { IfOk result (λ found. SpellsItem MAX_DEPTH tokens.now words.now (answers.name_of first.entry) found.0 at found.1) }
-    ensures complete { (d : ℕ) (t : tree.Item) (j : ℕ) → d ≤ MAX_DEPTH → SpellsItem d tokens.now words.now (answers.name_of first.entry) t at j → Gives (t, j) result }
+    ensures complete { (d : ℕ) (t : tree.FirstItem) (j : ℕ) → d ≤ MAX_DEPTH → SpellsItem d tokens.now words.now (answers.name_of first.entry) t at j → Gives (t, j) result }
     ensures syntax { (k : ℕ) → result ≡ Err (Refusal.Syntax k) → IsFirstDead words.now (answers.name_of first.entry) tokens.now at k }
     ensures too_deep { (k : ℕ) → result ≡ Err (Refusal.TooDeep k) → IsTooDeep MAX_DEPTH words.now (answers.name_of first.entry) tokens.now at k }
 {

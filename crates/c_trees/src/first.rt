@@ -21,7 +21,7 @@ pub struct First {
 
 /// An item of the file.
 #[derive(Drop)]
-pub enum Item {
+pub enum FirstItem {
     Declaration(Declaration),
     Definition(First),
 }

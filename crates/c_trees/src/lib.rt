@@ -5,14 +5,14 @@ mod calls;
 mod first;
 
 pub use calls::{argument_in, first_call};
-pub use first::{Declaration, First, Item};
+pub use first::{Declaration, First, FirstItem};
 pub use same_trees::Same;
 pub use shared_nodes::Shared;
 pub use syntax_trees::{
     Argument, ArgumentForm, AssignmentOperator, BasicType, BinaryOperator, Block, BlockForm, Body,
     BodyForm, Call, CallForm, Decl, DeclForm, Declarator, DeclaratorForm, Enumerator,
     EnumeratorForm, Exp, ExpForm, Group, Hole, IdPart, Init, InitDeclarator, InitDeclaratorForm,
-    InitForm, Kept, Member, MemberDeclarator, MemberDeclaratorForm, MemberForm, Node, NumPart,
-    Param, ParamForm, Params, ParamsForm, Spec, SpecForm, Specs, SpecsForm, Stmt, StmtForm,
-    StorageClass, Tree, TreeForm, TypeName, TypeNameForm, TypeQualifier, UnaryOperator,
+    InitForm, Item, ItemForm, Kept, Member, MemberDeclarator, MemberDeclaratorForm, MemberForm,
+    Node, NumPart, Param, ParamForm, Params, ParamsForm, Spec, SpecForm, Specs, SpecsForm, Stmt,
+    StmtForm, StorageClass, Tree, TreeForm, TypeName, TypeNameForm, TypeQualifier, UnaryOperator,
 };

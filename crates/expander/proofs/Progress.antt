@@ -10,11 +10,11 @@ use Rattle.c_tokens.specs.declared.token.Key.TheVariants as key
 use Rattle.c_tokens.specs.declared.token.Mark.TheVariants as mark
 use Rattle.c_trees.specs.declared.first.Declaration.{Declaration}
 use Rattle.c_trees.specs.declared.first.First.{First}
-use Rattle.c_trees.specs.declared.first.Item.{Item}
+use Rattle.c_trees.specs.declared.first.FirstItem.{FirstItem}
 use Rattle.c_grammar.specs.Reader.{shape_at}
 use Rattle.c_grammar.specs.Grammar.{an_item, item_by, defined as defines}
 use Rattle.c_tokens.specs.declared.token.Punct.TheVariants as punct
-use Rattle.c_trees.specs.declared.first.Item.TheVariants as item
+use Rattle.c_trees.specs.declared.first.FirstItem.TheVariants as item
 use Rattle.c_grammar.specs.Spells.{SpellsItem, SpellsDeclaration}
 use Rattle.c_grammar.specs.Laws.{AreKnown, IsFirstDead, IsTooDeep}
 use Rattle.c_grammar.proofs.Heights.{low_value, low_template}
@@ -38,7 +38,7 @@ use Rattle.expander.specs.Meaning.{limit, name_of, defined, defined_by, Read, me
 
 -- what was read so far, the macro that is defined, and what is written
 pub record Progress (names : List (List ℕ)) (w : List Token) (first : Option First) (written : List Declaration) (at : ℕ) : Type 0 where
-  pub items : List Item
+  pub items : List FirstItem
   pub read : Read names w None items 0 at
   pub last : first ≡ defined_by None items
   pub value : written ≡ meaning None items
@@ -49,24 +49,24 @@ begun names w = record { items = []; read = refl; last = refl; value = refl }
 
 -- ---- one more item
 
-read_more : (names : List (List ℕ)) (w : List Token) (first : Option First) (ts : List Item) (t : Item) (i j k : ℕ)
+read_more : (names : List (List ℕ)) (w : List Token) (first : Option First) (ts : List FirstItem) (t : FirstItem) (i j k : ℕ)
     → Read names w first ts i j → SpellsItem limit w names (name_of (defined_by first ts)) t j k → Read names w first (ts ++ t ∷ []) i k
 unfolding Read defined_by
 read_more names w first [] t i j k R S = (k, (subst (λ i. SpellsItem limit w names (name_of first) t i k) (sym R) S, refl))
 read_more names w first (u ∷ ts) t i j k R S = (R.0, (R.1.0, read_more names w (defined first u) ts t R.0 j k R.1.1 S))
 
-defined_more : (first : Option First) (ts : List Item) (t : Item) → defined_by first (ts ++ t ∷ []) ≡ defined (defined_by first ts) t
+defined_more : (first : Option First) (ts : List FirstItem) (t : FirstItem) → defined_by first (ts ++ t ∷ []) ≡ defined (defined_by first ts) t
 unfolding defined_by
 defined_more first [] t = refl
 defined_more first (u ∷ ts) t = defined_more (defined first u) ts t
 
-meaning_more : (first : Option First) (ts : List Item) (t : Item) → meaning first (ts ++ t ∷ []) ≡ meaning first ts ++ meaning_of (defined_by first ts) t
+meaning_more : (first : Option First) (ts : List FirstItem) (t : FirstItem) → meaning first (ts ++ t ∷ []) ≡ meaning first ts ++ meaning_of (defined_by first ts) t
 unfolding meaning defined_by
 meaning_more first [] t = append-nil (meaning_of first t)
 meaning_more first (u ∷ ts) t = ap (λ x. meaning_of first u ++ x) (meaning_more (defined first u) ts t)
     ∙ sym (append_assoc (meaning_of first u) (meaning (defined first u) ts) (meaning_of (defined_by (defined first u) ts) t))
 
-pub more : (names : List (List ℕ)) (w : List Token) (first : Option First) (written : List Declaration) (at : ℕ) (t : Item) (k : ℕ)
+pub more : (names : List (List ℕ)) (w : List Token) (first : Option First) (written : List Declaration) (at : ℕ) (t : FirstItem) (k : ℕ)
     → Progress names w first written at → SpellsItem limit w names (name_of first) t at k → Progress names w (defined first t) (written ++ meaning_of first t) k
 more names w first written at t k P S = record {
   items = P.items ++ t ∷ [];
@@ -89,7 +89,7 @@ takes_item : (names : List (List ℕ)) (m : Option Word) → Takes (an_item name
 unfolding an_item
 takes_item names m = takes_by names m
 
-pub onward : (w : List Token) (names : List (List ℕ)) (m : Option Word) (t : Item) (i j : ℕ) → SpellsItem limit w names m t i j → i < j
+pub onward : (w : List Token) (names : List (List ℕ)) (m : Option Word) (t : FirstItem) (i j : ℕ) → SpellsItem limit w names m t i j → i < j
 onward w names m t i j S =
     let a = advances limit (an_item names m) (from w i) t (from w j) (takes_item names m) (item_read w limit names m limit t i j S (omega arith)) in a.1
 
@@ -143,7 +143,7 @@ pub not_true : (b : Bool) (P : Type 0) → b ≡ false → (P → IsTrue b) → 
 not_true true P e h p = absurd cc
 not_true false P e h p = absurd (cc (h p))
 
-abbrev pub failed : Refusal → Result (Item × ℕ) Refusal
+abbrev pub failed : Refusal → Result (FirstItem × ℕ) Refusal
 failed e = Err e
 
 pub as_stop : (names : List (List ℕ)) (m n : Option Word) (w : List Token) (at : ℕ) (e : Refusal) (stop : Stop) → m ≡ n → stop ≡ stop_at w e
@@ -173,7 +173,7 @@ module _ (names : List (List ℕ)) (w : List Token) (known : AreKnown names w) (
         (template_built (Some names) f.template R.0, omega (arith, R.1, low_value w limit (Some f.name) t at after S, S.ends.1)),
       )
 
-  pub takeable : (first : Option First) (t : Item) (at after : ℕ) → IsReady names first at → SpellsItem limit w names (name_of first) t at after → CanTake first t
+  pub takeable : (first : Option First) (t : FirstItem) (at after : ℕ) → IsReady names first at → SpellsItem limit w names (name_of first) t at after → CanTake first t
   takeable first (item.Declaration t) at after R S = expandable first t at after R S
   takeable first (item.Definition f) at after R S = tt
 
@@ -181,6 +181,6 @@ module _ (names : List (List ℕ)) (w : List Token) (known : AreKnown names w) (
   later None at after less R = tt
   later (Some f) at after less R = (R.0, omega (arith, R.1))
 
-  pub ready_after : (first : Option First) (t : Item) (at after : ℕ) → IsReady names first at → SpellsItem limit w names (name_of first) t at after → IsReady names (defined first t) after
+  pub ready_after : (first : Option First) (t : FirstItem) (at after : ℕ) → IsReady names first at → SpellsItem limit w names (name_of first) t at after → IsReady names (defined first t) after
   ready_after first (item.Declaration t) at after R S = later first at after (onward w names (name_of first) (item.Declaration t) at after S) R
   ready_after first (item.Definition f) at after R S = (built_template names w known limit f at after S.1, omega (arith, low_template w limit names f at after S.1))

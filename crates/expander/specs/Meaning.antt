@@ -6,8 +6,8 @@ use Rattle.c_tokens.specs.declared.token.Token.{Token}
 use Rattle.c_tokens.specs.declared.token.Shape.TheVariants.{End}
 use Rattle.c_trees.specs.declared.first.Declaration.{Declaration}
 use Rattle.c_trees.specs.declared.first.First.{First}
-use Rattle.c_trees.specs.declared.first.Item.{Item}
-use Rattle.c_trees.specs.declared.first.Item.TheVariants as item
+use Rattle.c_trees.specs.declared.first.FirstItem.{FirstItem}
+use Rattle.c_trees.specs.declared.first.FirstItem.TheVariants as item
 use Rattle.c_grammar.specs.Reader.{shape_at, token_at}
 use Rattle.c_grammar.specs.Spells.{SpellsItem}
 use Rattle.c_grammar.specs.Laws.{IsFirstDead, IsTooDeep}
@@ -31,24 +31,24 @@ name_of (Some f) = Some f.name
 name_of None = None
 
 -- after an item
-abbrev pub defined : Option First → Item → Option First
+abbrev pub defined : Option First → FirstItem → Option First
 defined first (item.Definition f) = Some f
 defined first (item.Declaration t) = first
 
 -- after items
-unfoldable pub defined_by : Option First → List Item → Option First
+unfoldable pub defined_by : Option First → List FirstItem → Option First
 defined_by first [] = first
 defined_by first (t ∷ ts) = defined_by (defined first t) ts
 
 -- ---- what is read
 
 -- Items one after the other, from place i to place j, each read under the macro that was defined before it.
-unfoldable pub Read : List (List ℕ) → List Token → Option First → List Item → ℕ → ℕ → Type 0
+unfoldable pub Read : List (List ℕ) → List Token → Option First → List FirstItem → ℕ → ℕ → Type 0
 Read names w first [] i j = i ≡ j
 Read names w first (t ∷ ts) i j = (m : ℕ) × (SpellsItem limit w names (name_of first) t i m × Read names w (defined first t) ts m j)
 
 -- the items of a whole source
-pub record IsSource (names : List (List ℕ)) (w : List Token) (items : List Item) : Type 0 where
+pub record IsSource (names : List (List ℕ)) (w : List Token) (items : List FirstItem) : Type 0 where
   pub after : ℕ
   pub read : Read names w None items 0 after
   pub ends : shape_at w after ≡ End
@@ -61,12 +61,12 @@ value_under (Some f) t = record t { value = expanded f.template t.value }
 value_under None t = t
 
 -- a definition leaves nothing
-abbrev pub meaning_of : Option First → Item → List Declaration
+abbrev pub meaning_of : Option First → FirstItem → List Declaration
 meaning_of first (item.Declaration t) = value_under first t ∷ []
 meaning_of first (item.Definition f) = []
 
 -- the declarations that items stand for
-unfoldable pub meaning : Option First → List Item → List Declaration
+unfoldable pub meaning : Option First → List FirstItem → List Declaration
 meaning first [] = []
 meaning first (t ∷ ts) = meaning_of first t ++ meaning (defined first t) ts
 
@@ -74,13 +74,13 @@ meaning first (t ∷ ts) = meaning_of first t ++ meaning (defined first t) ts
 
 -- the tokens are items that stand for these declarations
 pub record IsTranslation (names : List (List ℕ)) (w : List Token) (written : List Declaration) : Type 0 where
-  pub items : List Item
+  pub items : List FirstItem
   pub source : IsSource names w items
   pub value : written ≡ meaning None items
 
 -- Items are read up to a place that is not the end, and the next one is refused at place k.
 pub record Refused (Refuses : List (List ℕ) → Option Word → List Token → ℕ → ℕ → Type 0) (names : List (List ℕ)) (w : List Token) (k : ℕ) : Type 0 where
-  pub items : List Item
+  pub items : List FirstItem
   pub at : ℕ
   pub read : Read names w None items 0 at
   pub more : shape_at w at ≢ End
@@ -97,7 +97,7 @@ IsStop names w Memory = Unit {0}
 -- one item was read at a place and taken in
 pub record IsTaken (names : List (List ℕ)) (w : List Token) (first : Option First) (written : List Declaration) (at : ℕ)
     (new_first : Option First) (new_written : List Declaration) (after : ℕ) : Type 0 where
-  pub item : Item
+  pub item : FirstItem
   pub read : SpellsItem limit w names (name_of first) item at after
   pub first_is : new_first ≡ defined first item
   pub written_is : new_written ≡ written ++ meaning_of first item
@@ -131,7 +131,7 @@ abbrev pub CanExpand : Option First → Declaration → Type 0
 CanExpand (Some f) t = (is_value t.value ≡ true) × ((is_template f.template ≡ true) × (height_of_exp t.value + height_of_exp f.template ≤ 1000))
 CanExpand None t = Unit {0}
 
-abbrev pub CanTake : Option First → Item → Type 0
+abbrev pub CanTake : Option First → FirstItem → Type 0
 CanTake first (item.Declaration t) = CanExpand first t
 CanTake first (item.Definition f) = Unit {0}
 

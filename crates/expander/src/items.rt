@@ -9,7 +9,7 @@ ghost use Rattle.expander.specs.Meaning.{AreFew, IsReady, CanExpand, CanTake, se
 use crate::stop::Stop;
 use c_parser::{Refusal, read_item};
 use c_tokens::{Memory, Shape, Span, Token, Words};
-use c_trees::{Declaration, First, Item};
+use c_trees::{Declaration, First, FirstItem};
 use sqlite_items::Items;
 use std::alloc::Global;
 use templates::expand;
@@ -68,7 +68,7 @@ fn is_end(tokens: &[Token], at: usize) -> bool
 /// Takes in one item: a definition is kept, and a declaration is expanded and put after the others.
 fn take(
     alloc: Global,
-    item: Item,
+    item: FirstItem,
     first: &mut Option<First>,
     written: &mut Items<Declaration>,
 ) -> Result<(), Memory>
@@ -77,10 +77,10 @@ fn take(
     ensures written { OnOk result (written.new ≡ written.old ++ meaning_of first.old item) }
 {
     match item {
-        Item::Definition(definition) => {
+        FirstItem::Definition(definition) => {
             *first = Some(definition);
         }
-        Item::Declaration(declaration) => {
+        FirstItem::Declaration(declaration) => {
             let declaration = expanded(alloc, declaration, first.as_ref())?;
             written.push(declaration)?;
         }

@@ -7,8 +7,8 @@ use Rattle.c_trees.specs.Built.{Built}
 use Rattle.c_trees.specs.Named.{names_word}
 use Rattle.c_trees.specs.declared.first.Declaration.{Declaration}
 use Rattle.c_trees.specs.declared.first.First.{First}
-use Rattle.c_trees.specs.declared.first.Item.{Item}
-use Rattle.c_trees.specs.declared.first.Item.TheVariants as item
+use Rattle.c_trees.specs.declared.first.FirstItem.{FirstItem}
+use Rattle.c_trees.specs.declared.first.FirstItem.TheVariants as item
 use Rattle.c_grammar.specs.Laws.{AreKnown}
 use Rattle.c_grammar.specs.Spells.{SpellsItem, SpellsDeclaration}
 use Rattle.c_grammar.proofs.Named.{named_declaration, built_value, built_template}
@@ -48,15 +48,15 @@ module _ (names : List (List ℕ)) (w : List Token) (known : AreKnown names w) w
 
   -- ---- items
 
-  defines_sound : (first : Option First) (t : Item) (i j : ℕ) → IsSound first → SpellsItem limit w names (name_of first) t i j → IsSound (defined first t)
+  defines_sound : (first : Option First) (t : FirstItem) (i j : ℕ) → IsSound first → SpellsItem limit w names (name_of first) t i j → IsSound (defined first t)
   defines_sound first (item.Declaration t) i j F S = F
   defines_sound first (item.Definition t) i j F S = built_template names w known limit t i j S.1
 
-  printable_item : (first : Option First) (t : Item) (i j : ℕ) → IsSound first → SpellsItem limit w names (name_of first) t i j → ArePrintable names (meaning_of first t)
+  printable_item : (first : Option First) (t : FirstItem) (i j : ℕ) → IsSound first → SpellsItem limit w names (name_of first) t i j → ArePrintable names (meaning_of first t)
   printable_item first (item.Declaration t) i j F S = (value_named first t i j S, (value_built first t i j F S, tt))
   printable_item first (item.Definition t) i j F S = tt
 
-  pub printable_meaning : (first : Option First) (ts : List Item) (i j : ℕ) → IsSound first → Read names w first ts i j → ArePrintable names (meaning first ts)
+  pub printable_meaning : (first : Option First) (ts : List FirstItem) (i j : ℕ) → IsSound first → Read names w first ts i j → ArePrintable names (meaning first ts)
   unfolding Read meaning
   printable_meaning first [] i j F R = tt
   printable_meaning first (t ∷ ts) i j F R = append names (meaning_of first t) (meaning (defined first t) ts) (printable_item first t i R.0 F R.1.0)

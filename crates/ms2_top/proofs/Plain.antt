@@ -5,7 +5,7 @@ use Rattle.c_tokens.specs.declared.token.Shape.TheVariants.{End}
 use Rattle.c_tokens.specs.declared.token.Shape.TheVariants as s
 use Rattle.c_tokens.specs.declared.token.Key.TheVariants as key
 use Rattle.c_trees.specs.declared.first.Declaration.{Declaration}
-use Rattle.c_trees.specs.declared.first.Item.TheVariants as item
+use Rattle.c_trees.specs.declared.first.FirstItem.TheVariants as item
 use Rattle.c_grammar.specs.Reader.{shape_at}
 use Rattle.c_grammar.specs.Spells.{SpellsDeclaration}
 use Rattle.c_grammar.proofs.Unique.{one_item}

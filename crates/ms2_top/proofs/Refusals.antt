@@ -8,8 +8,8 @@ use Rattle.c_tokens.specs.declared.token.Shape.TheVariants as s
 use Rattle.c_tokens.specs.declared.token.Key.TheVariants as key
 use Rattle.c_tokens.specs.declared.token.Mark.TheVariants as mark
 use Rattle.c_trees.specs.declared.first.First.{First}
-use Rattle.c_trees.specs.declared.first.Item.{Item}
-use Rattle.c_trees.specs.declared.first.Item.TheVariants as item
+use Rattle.c_trees.specs.declared.first.FirstItem.{FirstItem}
+use Rattle.c_trees.specs.declared.first.FirstItem.TheVariants as item
 use Rattle.c_grammar.specs.Words.{AreDistinct}
 use Rattle.c_grammar.specs.Reader.{shape_at}
 use Rattle.c_grammar.specs.Spells.{SpellsItem}
@@ -18,17 +18,17 @@ use Rattle.c_grammar.proofs.Unique.{one_item}
 use Rattle.expander.specs.Meaning.{limit, name_of, defined, defined_by, Read, IsSource, Refused}
 
 -- at the end no item begins
-not_end : (w : List Token) (names : List (List ℕ)) (m : Option Word) (d : ℕ) (t : Item) (i j : ℕ) → SpellsItem d w names m t i j → shape_at w i ≡ End → ⊥
+not_end : (w : List Token) (names : List (List ℕ)) (m : Option Word) (d : ℕ) (t : FirstItem) (i j : ℕ) → SpellsItem d w names m t i j → shape_at w i ≡ End → ⊥
 not_end w names m d (item.Declaration t) i j S e = let same : s.Key key.Int ≡ End = sym S.begins.0 ∙ e in absurd (cc same)
 not_end w names m d (item.Definition t) i j S e = let same : s.Mark mark.Syntax ≡ End = sym S.1.begins.0 ∙ e in absurd (cc same)
 
 -- no next item within the limit begins at a place
 abbrev NoItem : List (List ℕ) → Option Word → List Token → ℕ → Type 0
-NoItem names m w at = (t : Item) (j : ℕ) → SpellsItem limit w names m t at j → ⊥
+NoItem names m w at = (t : FirstItem) (j : ℕ) → SpellsItem limit w names m t at j → ⊥
 
 module _ (names : List (List ℕ)) (w : List Token) where
   -- where items are read up to a place at which none goes on, no list of items is read to the end
-  none_read : (first : Option First) (ts us : List Item) (i at j : ℕ) → Read names w first ts i at → shape_at w at ≢ End → NoItem names (name_of (defined_by first ts)) w at
+  none_read : (first : Option First) (ts us : List FirstItem) (i at j : ℕ) → Read names w first ts i at → shape_at w at ≢ End → NoItem names (name_of (defined_by first ts)) w at
       → Read names w first us i j → shape_at w j ≡ End → ⊥
   unfolding Read defined_by
   none_read first [] [] i at j R more free S e = more (ap (shape_at w) (sym R ∙ S) ∙ e)
@@ -40,7 +40,7 @@ module _ (names : List (List ℕ)) (w : List Token) where
       (subst (λ f. Read names w f us R.0 j) (ap (defined first) (sym O.0)) (subst (λ k. Read names w (defined first u) us k j) (sym O.1) S.1.1)) e
 
   pub none : (Refuses : List (List ℕ) → Option Word → List Token → ℕ → ℕ → Type 0) (k : ℕ) → ((m : Option Word) (at : ℕ) → Refuses names m w at k → NoItem names m w at)
-      → Refused Refuses names w k → (items : List Item) → IsSource names w items → ⊥
+      → Refused Refuses names w k → (items : List FirstItem) → IsSource names w items → ⊥
   none Refuses k free R items S = none_read None R.items items 0 R.at S.after R.read R.more (free _ R.at R.refused) S.read S.ends
 
   -- the tokens themselves are a source over their own texts
@@ -58,8 +58,8 @@ module _ (names : List (List ℕ)) (w : List Token) where
       (record { depth = limit; allowed = here; tree = t; after = j; spelled = subst (λ n. SpellsItem limit w n m t at j) (sym (append-nil names)) S })
 
   module _ (distinct : AreDistinct names) (known : AreKnown names w) where
-    pub first_dead_none : (k : ℕ) → Refused IsFirstDead names w k → (items : List Item) → IsSource names w items → ⊥
+    pub first_dead_none : (k : ℕ) → Refused IsFirstDead names w k → (items : List FirstItem) → IsSource names w items → ⊥
     first_dead_none k = none IsFirstDead k (λ m at R. dead_none AnyDepth tt distinct known m at k R.dead)
 
-    pub too_deep_none : (k : ℕ) → Refused (IsTooDeep limit) names w k → (items : List Item) → IsSource names w items → ⊥
+    pub too_deep_none : (k : ℕ) → Refused (IsTooDeep limit) names w k → (items : List FirstItem) → IsSource names w items → ⊥
     too_deep_none k = none (IsTooDeep limit) k (λ m at R. dead_none (Within limit) (let le : limit ≤ limit = omega arith in le) distinct known m at k R.dead)

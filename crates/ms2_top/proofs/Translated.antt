@@ -5,7 +5,7 @@ use Rattle.c_tokens.specs.declared.token.Token.{Token}
 use Rattle.c_tokens.specs.declared.lexical.Dialect.TheVariants.{C90}
 use Rattle.c_tokens.specs.Tokens.{tokens_of}
 use Rattle.c_trees.specs.declared.first.Declaration.{Declaration}
-use Rattle.c_trees.specs.declared.first.Item.{Item}
+use Rattle.c_trees.specs.declared.first.FirstItem.{FirstItem}
 use Rattle.c_grammar.specs.Words.{AreDistinct}
 use Rattle.c_grammar.specs.Laws.{AreKnown}
 use Rattle.c_grammar.proofs.Lexed.{known_tokens}
@@ -47,7 +47,7 @@ module _ (bytes : List ℕ) (w : List Token) (lexed : tokens_of C90 (texts_of by
         only = λ others Q. one_plain (texts_of bytes) text again.read others P Q;
       }
 
-  no_reading : ((items : List Item) → IsSource (texts_of bytes) w items → ⊥) → HasNoReading bytes
+  no_reading : ((items : List FirstItem) → IsSource (texts_of bytes) w items → ⊥) → HasNoReading bytes
   no_reading none items S = none items (subst (λ v. IsSource (texts_of bytes) v items) (same_tokens _ S.tokens w S.lexed lexed) S.read)
 
   pub is_stop : (stop : Stop) → AreDistinct (texts_of bytes) → (stop ≡ Memory → ⊥) → IsStop (texts_of bytes) w stop → IsStopOf bytes stop

@@ -8,7 +8,7 @@ use Rattle.c_tokens.specs.declared.lexical.LexCause.{LexCause}
 use Rattle.c_tokens.specs.Tokens.{tokens_of, gained, bad}
 use Rattle.syntax_trees.specs.Measures.{is_pure_exp}
 use Rattle.c_trees.specs.declared.first.Declaration.{Declaration}
-use Rattle.c_trees.specs.declared.first.Item.{Item}
+use Rattle.c_trees.specs.declared.first.FirstItem.{FirstItem}
 use Rattle.c_grammar.specs.Reader.{shape_at}
 use Rattle.c_printer.specs.Layout.{layout}
 use Rattle.c_printer.specs.ReadBack.{SpellInTurn, AreSame}
@@ -36,7 +36,7 @@ pub record IsPlain (names : List (List ℕ)) (text : List ℕ) (written : List D
 -- ---- a source and its text
 
 -- the bytes are a source with these items
-pub record IsSourceOf (bytes : List ℕ) (items : List Item) : Type 0 where
+pub record IsSourceOf (bytes : List ℕ) (items : List FirstItem) : Type 0 where
   pub tokens : List Token
   pub lexed : tokens_of C90 (texts_of bytes) bytes ≡ Ok tokens
   pub read : IsSource (texts_of bytes) tokens items
@@ -48,7 +48,7 @@ is_pure_declaration t = is_pure_exp t.value
 -- The text is that of the declarations that the source's items stand for, which are free of calls and placeholders.
 -- Its only reading in the plain C grammar is these declarations, spans aside.
 pub record IsTextOf (bytes text : List ℕ) : Type 0 where
-  pub items : List Item
+  pub items : List FirstItem
   pub source : IsSourceOf bytes items
   pub value : text ≡ layout (texts_of bytes) (meaning None items)
   pub pure : AllPass is_pure_declaration (meaning None items)
@@ -59,7 +59,7 @@ pub record IsTextOf (bytes text : List ℕ) : Type 0 where
 
 -- No items are a reading of the bytes.
 abbrev pub HasNoReading : List ℕ → Type 0
-HasNoReading bytes = (items : List Item) → IsSourceOf bytes items → ⊥
+HasNoReading bytes = (items : List FirstItem) → IsSourceOf bytes items → ⊥
 
 -- the tokens are not all items
 pub record IsStopOf (bytes : List ℕ) (stop : Stop) : Type 0 where
