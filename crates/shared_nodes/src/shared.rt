@@ -4,14 +4,15 @@ ghost use Rattle.std.specs.Prelude.{◌≡◌, IfOk};
 
 use std::alloc::{AllocError, Global};
 use std::marker::Model;
+use std::mem::ManuallyDrop;
 use std::rc::Rc;
 
-/// A value that several owners hold and none changes. Contracts see it as the value,
+/// A value that several owners hold and none changes. Its memory is never given back. Contracts see it as the value,
 /// so two owners of one value and two owners of equal values are the same to them.
 /// A type may hold itself through it.
 #[derive(Drop)]
 pub struct Shared<T> {
-    held: Rc<T>,
+    held: ManuallyDrop<Rc<T>>,
 }
 
 impl<T> Model for Shared<T> {
@@ -19,7 +20,7 @@ impl<T> Model for Shared<T> {
 
     ghost coded = { T.code };
 
-    ghost view = { λ shared. shared.held.value };
+    ghost view = { λ shared. shared.held.value.value };
 }
 
 impl<T> Shared<T> {
@@ -37,7 +38,9 @@ impl<T: Drop> Shared<T> {
         ensures { IfOk result (λ shared. shared ≡ value) }
     {
         match Rc::new(alloc, value) {
-            Ok(held) => Ok(Shared { held }),
+            Ok(held) => Ok(Shared {
+                held: ManuallyDrop::new(held),
+            }),
             Err(_) => Err(AllocError),
         }
     }
@@ -48,7 +51,7 @@ impl<T: Drop> Shared<T> {
         ensures { IfOk result (λ shared. shared ≡ self.now) }
     {
         Ok(Shared {
-            held: self.held.clone()?,
+            held: ManuallyDrop::new(Rc::clone(&self.held)?),
         })
     }
 }

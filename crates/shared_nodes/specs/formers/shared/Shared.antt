@@ -14,6 +14,8 @@ use denote.Param.Weighed.{Weighed}
 use denote.Model.Placed.{view_places}
 use Rattle.std.specs.declared.rc.Rc.{Rc}
 use Rattle.std.specs.contracts.rc.Rc as box
+use Rattle.std.specs.declared.mem.ManuallyDrop.{ManuallyDrop}
+use Rattle.std.specs.contracts.mem.ManuallyDrop as kept
 use Rattle.std.specs.declared.alloc.Global.{Global}
 use Rattle.std.specs.contracts.alloc.Global as heap
 use Rattle.std.specs.contracts.impls.GlobalAllocator.TheImpl.{ghosts}
@@ -29,8 +31,8 @@ abbrev pub the_weighed : {g : Former {0}} → Weighed g → Weighed (the_former 
 the_weighed w = w
 
 abbrev fields : Former {0}
-fields = via (pair (const Ptr) this) Inside (λ X a. (a.held.ptr, a.held.value))
-    (λ X v. record { held = record { ptr = v.0; value = v.1 } }) (λ X a. refl) (λ X v. refl)
+fields = via (pair (const Ptr) this) Inside (λ X a. (a.held.value.ptr, a.held.value.value))
+    (λ X v. record { held = record { value = record { ptr = v.0; value = v.1 } } }) (λ X a. refl) (λ X v. refl)
 
 abbrev with_value : {X Y : Type 0} → Rc X Global → Y → Rc Y Global
 with_value b y = record { ptr = b.ptr; value = y }
@@ -47,11 +49,14 @@ module _ (R S : RattleType) (h : R.Denot → S.Denot) where
     shr_same = λ b i. (box_of (one_value R (a.mir_same i) (a.own_same b.value i) (a.shr_same b.value i) gnil)).shr_at (with_value b tt);
   }
 
+  kept_places : Alike R S h → Alike (kept.the_row (box_of R)) (kept.the_row (box_of S)) (λ m. record { value = with_value m.value (h m.value.value) })
+  kept_places a = struct_places (kept.the_type (box_of R)) (kept.the_type (box_of S)) ((λ b. with_value b (h b.value)), tt) _ (λ d. refl) refl (laid _ _ _ (box_places a), tt)
+
   pub the_places : Alike R S h → Alike (C.the_row R) (C.the_row S) ((the_former this).map R.Denot S.Denot h)
   the_places a = view_places fields this view (λ X Y k u. refl) (λ X u. refl) R.Denot S.Denot h (C.the_row R).coded (C.the_row S).coded
       (invariant R.Denot) (invariant S.Denot) (λ u p q. refl) (λ u p q. refl) (λ u e. tt) (λ u e. tt)
       (over (I.the_row R)) (over (I.the_row S))
-      (struct_places (I.the_type R) (I.the_type S) ((λ b. with_value b (h b.value)), tt) _ (λ d. refl) refl (laid _ _ _ (box_places a), tt))
+      (struct_places (I.the_type R) (I.the_type S) ((λ m. record { value = with_value m.value (h m.value.value) }), tt) _ (λ d. refl) refl (laid _ _ _ (kept_places a), tt))
 
   pub the_codes_placed : Recodes R S h → Recodes (C.the_row R) (C.the_row S) ((the_former this).map R.Denot S.Denot h)
   the_codes_placed e d = e d
