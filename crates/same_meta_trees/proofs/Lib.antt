@@ -1,4 +1,3 @@
-mod Lengths
 mod CodeSameViews
 mod CodeSizeViews
 mod StepsSameViews

@@ -143,7 +143,7 @@ fn same_hole_code(one: &HoleCode, other: &HoleCode) -> bool
 }
 
 #[cycle(same_code)]
-#[tactic(auto, using(crate::proofs::Lengths::same_all_lengths))]
+#[tactic(auto, using(same_trees::proofs::Lengths::same_all_lengths))]
 fn are_same_hole_codes(all: &[HoleCode], others: &[HoleCode]) -> bool
     ensures { result ≡ same_all (map trees.same_hole_code all.now) others.now }
 {
@@ -159,7 +159,7 @@ fn are_same_hole_codes(all: &[HoleCode], others: &[HoleCode]) -> bool
 }
 
 #[cycle(same_code)]
-#[tactic(auto, using(crate::proofs::Lengths::same_all_lengths))]
+#[tactic(auto, using(same_trees::proofs::Lengths::same_all_lengths))]
 fn are_same_meta_exps(all: &[MetaExp], others: &[MetaExp]) -> bool
     ensures { result ≡ same_all (map trees.same_meta_exp all.now) others.now }
 {

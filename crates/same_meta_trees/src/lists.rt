@@ -8,7 +8,7 @@ ghost use Rattle.same_trees.specs.Same.{same_held as same_held_of};
 use crate::sameness::SameCode;
 
 /// Whether two lists have as many trees, each the same as the other's at its place.
-#[tactic(auto, using(crate::proofs::Lengths::same_all_lengths))]
+#[tactic(auto, using(same_trees::proofs::Lengths::same_all_lengths))]
 pub(crate) fn are_same<T: SameCode>(all: &[T], others: &[T]) -> bool
     ensures { result ≡ same_all (map T.sameness all.now) others.now }
 {

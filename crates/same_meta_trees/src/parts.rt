@@ -58,7 +58,7 @@ fn same_param(one: MetaParam, other: MetaParam) -> bool
     same_type(one.of, other.of) && one.name.0 == other.name.0
 }
 
-#[tactic(auto, using(crate::proofs::Lengths::same_all_lengths))]
+#[tactic(auto, using(same_trees::proofs::Lengths::same_all_lengths))]
 pub(crate) fn same_binders(all: &[Binder], others: &[Binder]) -> bool
     ensures { result ≡ same_all (map parts.same_binder all.now) others.now }
 {
@@ -73,7 +73,7 @@ pub(crate) fn same_binders(all: &[Binder], others: &[Binder]) -> bool
     true
 }
 
-#[tactic(auto, using(crate::proofs::Lengths::same_all_lengths))]
+#[tactic(auto, using(same_trees::proofs::Lengths::same_all_lengths))]
 pub(crate) fn same_params(all: &[MetaParam], others: &[MetaParam]) -> bool
     ensures { result ≡ same_all (map parts.same_param all.now) others.now }
 {

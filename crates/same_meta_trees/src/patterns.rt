@@ -92,7 +92,7 @@ fn same_element(one: &Element, other: &Element) -> bool
 
 /// Whether two patterns are the same, spans aside.
 #[cycle(same_pattern)]
-#[tactic(auto, using(crate::proofs::Lengths::same_all_lengths))]
+#[tactic(auto, using(same_trees::proofs::Lengths::same_all_lengths))]
 pub(crate) fn are_same_elements(all: &[Element], others: &[Element]) -> bool
     ensures { result ≡ same_all (map patterns.same_element all.now) others.now }
 {

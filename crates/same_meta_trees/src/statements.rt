@@ -157,7 +157,7 @@ fn same_meta_block(one: &MetaBlock, other: &MetaBlock) -> bool
 }
 
 #[cycle(same_steps)]
-#[tactic(auto, using(crate::proofs::Lengths::same_all_lengths))]
+#[tactic(auto, using(same_trees::proofs::Lengths::same_all_lengths))]
 fn are_same_meta_stmts(all: &[MetaStmt], others: &[MetaStmt]) -> bool
     ensures { result ≡ same_all (map trees.same_meta_stmt all.now) others.now }
 {

@@ -1,0 +1,108 @@
+//! Trees as tables tell them: a list of steps in postfix order, each of which takes its parts from a stack
+//! and puts its tree there.
+
+use c_tokens::Kind;
+use syntax_trees::{
+    AssignmentOperator, BasicType, BinaryOperator, Group, StorageClass, TypeQualifier,
+    UnaryOperator,
+};
+
+/// An identifier: a word with its place, or the number of a placeholder.
+#[derive(Clone, Copy)]
+pub enum Ident {
+    W(u32, u32),
+    H(u32),
+}
+
+/// One step. Numbers are words, and the second of two is the word's place; a `usize` is how many parts
+/// are taken as a list, and a `bool` says whether a part is there.
+#[derive(Clone, Copy)]
+pub enum Step {
+    Name(u32, u32),
+    Int(u32),
+    Float(u32),
+    Char(u32),
+    Str(&'static [u32]),
+    Index,
+    Apply(usize),
+    Field(Ident),
+    Arrow(Ident),
+    PostInc,
+    PostDec,
+    PreInc,
+    PreDec,
+    Unary(UnaryOperator),
+    SizeofExp,
+    SizeofType,
+    Cast,
+    Binary(BinaryOperator),
+    Conditional,
+    Assign(AssignmentOperator),
+    Comma,
+    ExpCall,
+    /// A placeholder of this kind, in the place of a tree of the kind, with its list levels and number.
+    Hole(Kind, u8, u32),
+    TypeName,
+    Storage(StorageClass),
+    Qualifier(TypeQualifier),
+    Basic(BasicType),
+    Typedef(u32, u32),
+    StructOf(Group, Option<Ident>, Option<usize>),
+    EnumOf(Option<Ident>, Option<usize>),
+    SpecCall,
+    Specs(usize),
+    MemberDeclarator(bool),
+    Member(usize),
+    Enumerator(Ident, bool),
+    Named(Ident),
+    Absent,
+    Pointer,
+    ArrayOf(bool),
+    FunctionOf,
+    Ids(&'static [Ident]),
+    Typed(usize, bool),
+    Param,
+    InitOne,
+    Braces(usize),
+    InitDeclarator(bool),
+    Decl(usize),
+    DeclCall,
+    Block(usize, usize),
+    Label(Ident),
+    Case,
+    Default,
+    Express,
+    Empty,
+    Compound,
+    If,
+    IfElse,
+    Switch,
+    While,
+    Do,
+    For(bool, bool, bool),
+    Goto(Ident),
+    Continue,
+    Break,
+    Return(bool),
+    StmtCall,
+    Function(usize),
+    Declaration,
+    ItemCall,
+    /// A call of the macro with a number, which gives a tree of a kind or a list of them, and whose pattern
+    /// ends in a statement or not.
+    Call(u32, Kind, u8, bool, usize),
+    ArgumentOne,
+    ArgumentMany(usize),
+    BodyOne,
+    BodyMany(Kind, usize),
+    TreeId(Ident),
+    TreeNum(u32),
+    TreeNumHole(u32),
+    TreeExp,
+    TreeStmt,
+    TreeDecl,
+    TreeItem,
+    TreeSpec,
+    TreeParam,
+    TreeMember,
+}
