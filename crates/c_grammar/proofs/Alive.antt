@@ -20,7 +20,7 @@ use Rattle.c_grammar.specs.declared.context.Context.{Context}
 use Rattle.c_grammar.specs.declared.context.Context.TheVariants.{InItem, InArgument, InTemplate}
 use Rattle.c_grammar.specs.Words.{is_identifier, callee, binder, is_exp}
 use Rattle.c_grammar.specs.Reader.{Input, Reader, More, Last, Rule, Expression, MetaBlock, Found, Give, Look, Where, Next, Pick, Bind, Fits, Call, pick, choose, token, next, before, through, shape_at, span_at, ◌>>=◌, ◌>>◌}
-use Rattle.c_grammar.specs.Grammar.{read, below, body, binds, joined, is_opening, is_closing, is_equal, is_semicolon, is_colon, is_right_brace, is_return, is_result, is_pattern_open, is_pattern_close, is_bind, word_of, identifier_of, is_kind, is_named, parenthesized, called, closed, itself, call_from, placed, reserved, placeholder, primary_by, primary, longer, climb, expression, quoted, quote_by, quote, meta_block, block_by, block, bound, pattern, definition, declaration, defined, item_by, an_item, chosen}
+use Rattle.c_grammar.specs.Grammar.{read, below, body, binds, joined, is_opening, is_closing, is_equal, is_semicolon, is_colon, is_right_brace, is_return, is_result, is_pattern_open, is_pattern_close, is_bind, word_of, identifier_of, is_kind, is_named, parenthesized, called, closed, itself, call_from, placed, reserved, placeholder, primary_by, primary, longer, climb, expression, quoted, quote_by, quote, meta_block, block_by, block, bound, pattern, definition, declared as item_declared, valued, declaration, defined, item_by, an_item, chosen}
 use Rattle.c_grammar.specs.Laws.{IsKnown}
 use Rattle.c_grammar.proofs.Sets.{Tokens, anything}
 use Rattle.c_grammar.proofs.Loops.{split, same_answer}
@@ -127,8 +127,8 @@ unfolding definition
 tame_definition names = (tt, λ _. (tt, λ _. (tame_pattern names, λ x. (tame_block x, λ _. tt))))
 
 tame_declaration : (m : Option Word) → Tame (declaration m)
-unfolding declaration
-tame_declaration m = (tt, λ _. (tt, λ _. (tame_expression (InItem m) 2, λ _. (tt, λ _. tt))))
+unfolding declaration valued
+tame_declaration m = λ _ _. (tt, λ _. (tt, λ _ _ _. (tame_expression (InItem m) 2, λ _ _ _. (tt, λ _ _ _. tt))))
 
 tame_item_by : (names : List (List ℕ)) (m : Option Word) (x : Shape) → Tame (item_by names m x)
 tame_item_by names m (s.Key key.Int) = tame_declaration m
@@ -530,14 +530,20 @@ module _ (names : List (List ℕ)) (zero : Word) (has_zero : IsKnown names (s.In
       abbrev declaring : List Shape
       declaring = s.Word y ∷ s.Punct punct.Equal ∷ s.Int zero ∷ s.Punct punct.Semicolon ∷ []
 
+      alive_valued : (specifier at : Span) (name : Word) → Alive K 0 anything (valued m specifier at name) (s.Int zero ∷ s.Punct punct.Semicolon ∷ [])
+      unfolding valued
+      alive_valued specifier at name = alive_where K 0 anything _ (s.Int zero ∷ s.Punct punct.Semicolon ∷ []) (has_zero, (tt, tt))
+          (λ _ first. alive_bind K 0 quiet anything (expression (InItem m) 2) _ constant (s.Punct punct.Semicolon ∷ []) (alive_expression (InItem m) 2 (omega arith) tt) refl (tt, tt)
+          (λ value. alive_where K 0 anything _ (s.Punct punct.Semicolon ∷ []) (tt, tt)
+          (λ last _. alive_token K 0 anything is_semicolon (Where (λ close _. Give (item_declared name value.0 specifier at first last close))) (s.Punct punct.Semicolon) [] refl tt
+          (alive_where K 0 anything _ [] tt (λ close _. alive_give K 0 anything (item_declared name value.0 specifier at first last close))))))
+
       alive_declaration : Alive K 0 anything (declaration m) declaring
       unfolding declaration
-      alive_declaration = alive_bind K 0 anything anything (Pick (identifier_of (InItem m))) _ (s.Word y ∷ []) (s.Punct punct.Equal ∷ s.Int zero ∷ s.Punct punct.Semicolon ∷ [])
+      alive_declaration = alive_where K 0 anything _ declaring (has_y, (tt, (has_zero, (tt, tt))))
+          (λ specifier at. alive_bind K 0 anything anything (Pick (identifier_of (InItem m))) _ (s.Word y ∷ []) (s.Punct punct.Equal ∷ s.Int zero ∷ s.Punct punct.Semicolon ∷ [])
           (alive_pick K 0 anything (identifier_of (InItem m)) (s.Word y) y (ap (λ b. chosen b y) free) has_y) refl (tt, (has_zero, (tt, tt)))
-          (λ name. alive_token K 0 anything is_equal _ (s.Punct punct.Equal) (s.Int zero ∷ s.Punct punct.Semicolon ∷ []) refl tt
-          (alive_bind K 0 quiet anything (expression (InItem m) 2) _ constant (s.Punct punct.Semicolon ∷ []) (alive_expression (InItem m) 2 (omega arith) tt) refl (tt, tt)
-          (λ value. alive_token K 0 anything is_semicolon (Give (item.Declaration (record { name = name; value = value.0 }))) (s.Punct punct.Semicolon) [] refl tt
-          (alive_give K 0 anything (item.Declaration (record { name = name; value = value.0 }))))))
+          (λ name. alive_token K 0 anything is_equal (valued m specifier at name) (s.Punct punct.Equal) (s.Int zero ∷ s.Punct punct.Semicolon ∷ []) refl tt (alive_valued specifier at name)))
 
       live_defined : (o : Option Word) → Live K 0 anything (defined names o)
       live_defined (Some n) = tt

@@ -9,7 +9,7 @@ use Rattle.c_tokens.specs.declared.token.Punct.TheVariants as punct
 use Rattle.c_tokens.specs.declared.token.Mark.TheVariants as mark
 use Rattle.c_grammar.specs.declared.refusal.Refusal.TheVariants.{Syntax, TooDeep}
 use Rattle.c_grammar.specs.Words.{AreDistinct}
-use Rattle.c_grammar.specs.Grammar.{read, an_item, declaration, definition, pattern, bound, expression, primary}
+use Rattle.c_grammar.specs.Grammar.{read, an_item, valued, declaration, definition, pattern, bound, expression, primary}
 use Rattle.c_tokens.specs.Bytes.{is_digit, is_letter, is_word_byte, is_quote}
 use Rattle.c_tokens.specs.Spelling.{spelling_of, word_spelling, find_text, keywords, is_word, plain_spelling}
 use Rattle.c_tokens.specs.Literals.{starts_literal, starts_with_quote, starts_wide}
@@ -48,7 +48,7 @@ no_value_known (suc (suc (suc zero))) = tt
 no_value_known (suc (suc (suc (suc k)))) = tt
 
 no_value_refused : read 2 (an_item names None) (from no_value 0) ≡ Err (Syntax 3)
-unfolding an_item declaration expression primary
+unfolding an_item valued declaration expression primary
 no_value_refused = refl
 
 no_value_dead : IsFirstDead names None no_value 0 3
@@ -66,7 +66,7 @@ opened_known (suc (suc (suc zero))) = tt
 opened_known (suc (suc (suc (suc k)))) = tt
 
 opened_refused : read 0 (an_item names None) (from opened 0) ≡ Err (TooDeep 3)
-unfolding an_item declaration expression primary
+unfolding an_item valued declaration expression primary
 opened_refused = refl
 
 opened_deep : IsTooDeep 0 names None opened 0 3

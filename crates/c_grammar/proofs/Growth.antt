@@ -83,4 +83,5 @@ module _ (m : Word) (w : List Token) where
         last = S.last;
         value = expression_grows h 2 t.value (i + 3) S.last (narrower i j (i + 3) S.last (omega arith) (omega arith) A) S.value;
         ends = S.ends;
+        placed = S.placed;
       }

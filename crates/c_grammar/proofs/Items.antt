@@ -1,5 +1,5 @@
 -- An item that is spelled is read.
-use Rattle.std.proofs.Common.{◌≡◌, refl, ◌∙◌, ℕ, suc, ◌+◌, ◌-◌, ◌<◌, ◌≤◌, true, List, [], ◌∷◌, ◌++◌, Option, Ok, arith}
+use Rattle.std.proofs.Common.{◌≡◌, refl, ap, sym, ◌∙◌, ℕ, suc, ◌+◌, ◌-◌, ◌<◌, ◌≤◌, true, List, [], ◌∷◌, ◌++◌, Option, Ok, arith}
 use Rattle.std.specs.Prelude.{codes}
 use Rattle.std.proofs.lemmas.Bool.{lt-ltb}
 use Rattle.std.proofs.lemmas.Slice.Eq.{bytes_eq-Decides}
@@ -19,7 +19,7 @@ use Rattle.c_grammar.specs.declared.context.Context.{Context}
 use Rattle.c_grammar.specs.declared.context.Context.TheVariants.{InItem, InTemplate}
 use Rattle.c_grammar.specs.Words.{is_exp, text_of}
 use Rattle.c_grammar.specs.Reader.{Expression, MetaBlock, kind, shape_at}
-use Rattle.c_grammar.specs.Grammar.{read, below, binds, expression, quoted, quote, meta_block, block, bound, pattern, definition, declaration, an_item}
+use Rattle.c_grammar.specs.Grammar.{read, below, binds, expression, quoted, quote, meta_block, block, bound, pattern, definition, valued, declaration, an_item}
 use Rattle.c_grammar.specs.Spells.{Stand, Spells, SpellsDeclaration, SpellsDefinition, SpellsItem}
 use Rattle.c_grammar.proofs.Chain.{one_level}
 use Rattle.c_grammar.proofs.Local.{from}
@@ -55,11 +55,12 @@ module _ (d : ℕ) (w : List Token) where
 
   pub declaration_read : (m : Option Word) (h : ℕ) (t : Declaration) (i j : ℕ) → h ≤ d → SpellsDeclaration h w m t i j
       → read d (declaration m) (from w (i + 1)) ≡ Ok (item.Declaration t, from w j)
-  unfolding declaration
+  unfolding declaration valued
   declaration_read m h t i j le S =
       let B : Stand (s.Key key.Int ∷ s.Word t.name ∷ s.Punct punct.Equal ∷ []) w i (i + 3) = S.begins in
       let V = whole (InItem m) 2 h t.value (i + 3) S.last le (omega arith) (rw S.ends.0) S.value in
-      rw (B.1.0, S.free, B.1.1.0, B.1.1.1, V.1, S.ends.0, S.ends.1)
+      let back : i + 1 - 1 ≡ i = omega arith in
+      rw (B.1.0, S.free, B.1.1.0, B.1.1.1, V.1, S.ends.0, S.ends.1, back) (ap (λ t. Ok (item.Declaration t, from w j)) (sym S.placed))
 
   bound_read : (names : List (List ℕ)) (kind binder : Word) (i j : ℕ) → is_exp names kind ≡ true
       → Stand (s.Mark mark.Bind ∷ s.Word kind ∷ s.Punct punct.Colon ∷ s.Punct punct.Colon ∷ s.Word binder ∷ []) w i j

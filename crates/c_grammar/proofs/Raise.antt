@@ -61,6 +61,7 @@ raise_item h k w names m (item.Declaration t) i j up S = record {
   last = S.last;
   value = raise h k w (InItem m) 2 2 t.value (i + 3) S.last up (omega arith) S.value;
   ends = S.ends;
+  placed = S.placed;
 }
 raise_item h k w names m (item.Definition t) i j up S = (
   S.0,

@@ -17,7 +17,7 @@ use Rattle.c_grammar.specs.declared.context.Context.{Context}
 use Rattle.c_grammar.specs.declared.context.Context.TheVariants.{InItem, InArgument, InTemplate}
 use Rattle.c_grammar.specs.Laws.{Agree}
 use Rattle.c_grammar.specs.Reader.{token_at, shape_at, span_at}
-use Rattle.c_grammar.specs.Spells.{Stand, Spelling, Spells, Node, Wraps, SpellsItem, span_from, heading}
+use Rattle.c_grammar.specs.Spells.{Stand, Spelling, Spells, Node, Wraps, SpellsItem, declaration_at, span_from, heading}
 use Rattle.c_grammar.proofs.Local.{Match}
 use Rattle.c_grammar.proofs.Raise.{nothing}
 
@@ -74,8 +74,15 @@ module _ (v w : List Token) (same : (k : ℕ) → shape_at v k ≡ shape_at w k)
   pub item_again : (d : ℕ) (names : List (List ℕ)) (m : Option Word) (t : FirstItem) (i j : ℕ) → SpellsItem d v names m t i j → (r : FirstItem) × SpellsItem d w names m r i j
   item_again d names m (item.Declaration t) i j S =
       let A = expression_again d (InItem m) 2 t.value (i + 3) S.last S.value in (
-        item.Declaration (record { name = t.name; value = A.0 }),
-        record { begins = stands (s.Key key.Int ∷ s.Word t.name ∷ s.Punct punct.Equal ∷ []) i (i + 3) S.begins; free = S.free; last = S.last; value = A.1; ends = stands (s.Punct punct.Semicolon ∷ []) S.last j S.ends },
+        item.Declaration (declaration_at t.name A.0 w i S.last j),
+        record {
+          begins = stands (s.Key key.Int ∷ s.Word t.name ∷ s.Punct punct.Equal ∷ []) i (i + 3) S.begins;
+          free = S.free;
+          last = S.last;
+          value = A.1;
+          ends = stands (s.Punct punct.Semicolon ∷ []) S.last j S.ends;
+          placed = refl;
+        },
       )
   item_again d names m (item.Definition t) i j (none, S) =
       let A = expression_again S.inner (InTemplate t.binder) 1 t.template (i + 15) S.last S.template in (

@@ -14,7 +14,7 @@ use Rattle.c_grammar.specs.declared.context.Context.{Context}
 use Rattle.c_grammar.specs.declared.context.Context.TheVariants.{InItem, InTemplate}
 use Rattle.c_grammar.specs.Words.{is_identifier, text_of}
 use Rattle.c_grammar.specs.Reader.{Input, MetaBlock, only, kind, shape_at}
-use Rattle.c_grammar.specs.Grammar.{read, quoted, quote, quote_by, meta_block, block, block_by, bound, pattern, definition, declaration, item_by, an_item, identifier_of, chosen, word_of, is_kind, is_equal, is_semicolon, is_colon, is_closing, is_opening, is_right_brace, is_return, is_result, is_pattern_open, is_pattern_close, is_bind}
+use Rattle.c_grammar.specs.Grammar.{read, quoted, quote, quote_by, meta_block, block, block_by, bound, pattern, definition, valued, declaration, item_by, an_item, identifier_of, chosen, word_of, is_kind, is_equal, is_semicolon, is_colon, is_closing, is_opening, is_right_brace, is_return, is_result, is_pattern_open, is_pattern_close, is_bind}
 use Rattle.c_grammar.specs.Spells.{Stand, Spells, SpellsItem, heading}
 use Rattle.c_grammar.proofs.Chain.{one_level}
 use Rattle.c_grammar.proofs.Local.{from, onward}
@@ -161,7 +161,7 @@ record Bound (shape : Word → Word → List Shape) (names : List (List ℕ)) (x
 
 module _ (w : List Token) where
   declared : (d : ℕ) (names : List (List ℕ)) (m : Option Word) (i : ℕ) (t : FirstItem) (j : ℕ) → shape_at w i ≡ s.Key key.Int → Derives (Called d w) d w (declaration m) (i + 1) t j → SpellsItem d w names m t i j
-  unfolding declaration
+  unfolding declaration valued
   declared d names m i t j int (n, (a, (_, (name, (u, (b, (_, (equals, (v, (k, (value, (_, (u1, (l, (_, (semi, (same, end))))))))))))))))) =
       let N : (shape_at w (i + 1) ≡ s.Word n) × (is_identifier (InItem m) n ≡ true) = identifier (InItem m) (shape_at w (i + 1)) n name.0 in
       let front : Row (s.Key key.Int ∷ s.Word n ∷ s.Punct punct.Equal ∷ []) w i b =
@@ -169,6 +169,7 @@ module _ (w : List Token) where
       let at : b ≡ i + 3 = long (s.Key key.Int ∷ s.Word n ∷ s.Punct punct.Equal ∷ []) w i b front.stands in
       let S : Sound (suc d) (InItem m) 2 w b v (from w k) = sound d w (InItem m) 2 b v (from w k) (omega arith) (omega arith) value in
       let here : S.place ≡ k = sym (ap (λ i. i.at) S.placed) in
+      let start : i + 1 - 1 ≡ i = omega arith in
       let back : Row (s.Punct punct.Semicolon ∷ []) w k j = taken is_semicolon (s.Punct punct.Semicolon) semicolon k u1 semi (nothing end) in
       let spelled : Spells d w (InItem m) 2 v.0 b k = subst (λ e. Spells d w (InItem m) 2 v.0 b e) here (raise v.1 d w (InItem m) 2 2 v.0 b S.place (omega (arith, S.high)) (omega arith) S.spelled) in
       subst (λ t. SpellsItem d w names m t i j) same (record {
@@ -177,6 +178,7 @@ module _ (w : List Token) where
         last = k;
         value = subst (λ e. Spells d w (InItem m) 2 v.0 e k) at spelled;
         ends = back.stands;
+        placed = rw (start, at, end);
       })
 
   bound_at : (d : ℕ) (names : List (List ℕ)) (i : ℕ) (x : Word) (j : ℕ) → Derives (Called d w) d w (bound names) i x j → Bound bound_row names x w i j

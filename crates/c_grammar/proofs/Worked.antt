@@ -16,7 +16,7 @@ use Rattle.c_trees.specs.declared.first.FirstItem.{FirstItem}
 use Rattle.c_trees.specs.declared.first.FirstItem.TheVariants as item
 use Rattle.c_grammar.specs.declared.refusal.Refusal.TheVariants.{Syntax, TooDeep}
 use Rattle.c_grammar.specs.Reader.{loop}
-use Rattle.c_grammar.specs.Grammar.{read, below, expression, primary, climb, longer, parenthesized, closed, called, placed, quoted, quote, meta_block, block, bound, pattern, definition, declaration, an_item}
+use Rattle.c_grammar.specs.Grammar.{read, below, expression, primary, climb, longer, parenthesized, closed, called, placed, quoted, quote, meta_block, block, bound, pattern, definition, valued, declaration, an_item}
 use Rattle.c_grammar.proofs.Local.{from}
 
 abbrev from_to : ℕ → ℕ → Span
@@ -52,7 +52,7 @@ declaration_tokens = tokens (s.Key key.Int ∷ s.Word (number 4) ∷ s.Punct pun
     ∷ s.Punct punct.RightParen ∷ s.Punct punct.RightParen ∷ s.Punct punct.Plus ∷ s.Word (number 2) ∷ s.Punct punct.Semicolon ∷ [])
 
 abbrev declaration_tree : FirstItem
-declaration_tree = item.Declaration (record { name = number 4; value = e.Binary o.Add (first_call (e.Int (number 3) (from_to 24 27)) (from_to 20 31) (from_to 12 35)) (e.Name (number 2) (from_to 40 43)) (from_to 12 43) })
+declaration_tree = item.Declaration (record { name = number 4; value = e.Binary o.Add (first_call (e.Int (number 3) (from_to 24 27)) (from_to 20 31) (from_to 12 35)) (e.Name (number 2) (from_to 40 43)) (from_to 12 43); specifier = from_to 0 3; at = from_to 4 7; given = from_to 12 43; span = from_to 0 47 })
 
 -- the template counts two, its body and its mark one each
 four_levels : read 4 (an_item names None) (from definition_tokens 0) ≡ Ok (definition_tree, from definition_tokens 22)
@@ -70,14 +70,14 @@ second = refl
 
 -- the call and the parentheses in it count one each, and so does the sum
 under_the_macro : read 3 (an_item names (Some (number 1))) (from declaration_tokens 0) ≡ Ok (declaration_tree, from declaration_tokens 12)
-unfolding loop below expression primary climb longer parenthesized closed called declaration an_item
+unfolding loop below expression primary climb longer parenthesized closed called valued declaration an_item
 under_the_macro = refl
 
 two_levels : read 2 (an_item names (Some (number 1))) (from declaration_tokens 0) ≡ Err (TooDeep 9)
-unfolding loop below expression primary climb longer parenthesized closed called declaration an_item
+unfolding loop below expression primary climb longer parenthesized closed called valued declaration an_item
 two_levels = refl
 
 -- the same name, where no macro has it, is an identifier
 under_none : read 9 (an_item names None) (from declaration_tokens 0) ≡ Err (Syntax 4)
-unfolding loop below expression primary climb longer parenthesized closed called declaration an_item
+unfolding loop below expression primary climb longer parenthesized closed called valued declaration an_item
 under_none = refl

@@ -240,14 +240,25 @@ definition names = do
   template ← block binder
   Give (item.Definition (record { name = name; binder = binder; template = template }))
 
+-- the parts of a declaration with these spans
+abbrev pub declared : Word → PlainExp → Span → Span → Span → Span → Span → FirstItem
+declared name value specifier at first last close = item.Declaration (record {
+  name = name;
+  value = value;
+  specifier = specifier;
+  at = at;
+  given = through first last;
+  span = through specifier close;
+})
+
+-- after the sign of the value
+unfoldable pub valued : Option Word → Span → Span → Word → Reader FirstItem
+valued m specifier at name = Where (λ _ first. expression (InItem m) 2 >>= λ value. Where (λ last _.
+    token is_semicolon >> Where (λ close _. Give (declared name value.0 specifier at first last close))))
+
 -- after `int`
 unfoldable pub declaration : Option Word → Reader FirstItem
-declaration m = do
-  name ← Pick (identifier_of (InItem m))
-  token is_equal
-  value ← expression (InItem m) 2
-  token is_semicolon
-  Give (item.Declaration (record { name = name; value = value.0 }))
+declaration m = Where (λ specifier at. Pick (identifier_of (InItem m)) >>= λ name. token is_equal >> valued m specifier at name)
 
 abbrev pub defined : List (List ℕ) → Option Word → Reader FirstItem
 defined names (Some m) = Refuse

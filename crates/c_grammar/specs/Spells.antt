@@ -107,13 +107,25 @@ unfoldable pub Spells : ℕ → List Token → Spelling
 Spells zero w c least t i j = Node ⊥ (λ _ _ _ _ _. ⊥) w c least (out-PlainExp t) i j
 Spells (suc d) w c least t i j = Node (Unit {0}) (Spells d w) w c least (out-PlainExp t) i j ⊎ Wraps (Spells d w c 1 t) w i j
 
--- `int name = value ;`
+-- the parts of a declaration whose tokens stand from place i to place j, and whose value ends before place `last`
+abbrev pub declaration_at : Word → PlainExp → List Token → ℕ → ℕ → ℕ → Declaration
+declaration_at name value w i last j = record {
+  name = name;
+  value = value;
+  specifier = span_at w i;
+  at = span_at w (i + 1);
+  given = span_from w (i + 3) last;
+  span = span_from w i j;
+}
+
+-- `int name = value ;`. The span of an initializer is that of the value, with the parentheses around it.
 pub record SpellsDeclaration (d : ℕ) (w : List Token) (m : Option Word) (t : Declaration) (i j : ℕ) : Type 0 where
   pub begins : Stand (s.Key key.Int ∷ s.Word t.name ∷ s.Punct punct.Equal ∷ []) w i (i + 3)
   pub free : is_identifier (InItem m) t.name ≡ true
   pub last : ℕ
   pub value : Spells d w (InItem m) 2 t.value (i + 3) last
   pub ends : Stand (s.Punct punct.Semicolon ∷ []) w last j
+  pub placed : t ≡ declaration_at t.name t.value w i last j
 
 -- what stands before the template of a macro: `@syntax @exp name @{ ( $$exp::binder ) @} { return` and the mark of a template
 abbrev pub heading : Word → Word → Word → List Shape

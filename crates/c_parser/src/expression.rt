@@ -39,7 +39,7 @@ fn operator_of(shape: Shape) -> BinaryOperator
 }
 
 /// From the start of a token to the end of another.
-fn through(first: Span, last: Span) -> Span
+pub fn through(first: Span, last: Span) -> Span
     ensures { result ≡ reader.through first last }
 {
     Span {

@@ -8,13 +8,13 @@ ghost use Rattle.c_grammar.specs.Reader as reader;
 ghost use Rattle.c_grammar.specs.Reader.{Reads};
 
 use crate::cursor::Cursor;
-use crate::expression::expression;
+use crate::expression::{expression, through};
 use crate::tokens::{
     identifier, is_bind, is_closing, is_colon, is_equal, is_kind, is_opening, is_pattern_close,
     is_pattern_open, is_result, is_return, is_right_brace, is_semicolon, word,
 };
 use c_grammar::{Context, Refusal};
-use c_tokens::{Key, Mark, Punct, Shape, Word, Words};
+use c_tokens::{Key, Mark, Punct, Shape, Span, Word, Words};
 use c_trees::{Declaration, Exp, First, FirstItem};
 use std::alloc::Global;
 
@@ -134,6 +134,34 @@ fn definition(
     }))
 }
 
+/// What follows the sign of the value, in a declaration of a name with this span.
+#[tactic(auto, unfolding(c_grammar::specs::Grammar::valued))]
+fn valued(
+    alloc: Global,
+    cursor: &mut Cursor<'_>,
+    depth: usize,
+    first: Option<Word>,
+    specifier: Span,
+    at: Span,
+    name: Word,
+) -> Result<FirstItem, Refusal>
+    requires depth { depth ≤ 1000 }
+    ensures { Reads (read depth (spec.valued first specifier at name) cursor.old) result cursor.new }
+{
+    let value_begins = cursor.here();
+    let (value, _height) = expression(alloc, Context::InItem(first), cursor, depth, 2)?;
+    let value_ends = cursor.before();
+    cursor.take_if(is_semicolon(cursor.peek()))?;
+    Ok(FirstItem::Declaration(Declaration {
+        name,
+        value,
+        specifier,
+        at,
+        given: through(value_begins, value_ends),
+        span: through(specifier, cursor.before()),
+    }))
+}
+
 /// What follows `int`.
 #[tactic(auto, unfolding(c_grammar::specs::Grammar::declaration))]
 fn declaration(
@@ -145,12 +173,11 @@ fn declaration(
     requires depth { depth ≤ 1000 }
     ensures { Reads (read depth (spec.declaration first) cursor.old) result cursor.new }
 {
-    let context = Context::InItem(first);
-    let name = identifier(cursor, context)?;
+    let specifier = cursor.before();
+    let at = cursor.here();
+    let name = identifier(cursor, Context::InItem(first))?;
     cursor.take_if(is_equal(cursor.peek()))?;
-    let (value, _height) = expression(alloc, context, cursor, depth, 2)?;
-    cursor.take_if(is_semicolon(cursor.peek()))?;
-    Ok(FirstItem::Declaration(Declaration { name, value }))
+    valued(alloc, cursor, depth, first, specifier, at, name)
 }
 
 /// The next item, where `first` names the macro that is defined.

@@ -8,5 +8,6 @@ pub mod Pieces
 pub mod Written
 pub mod Lexed
 pub mod Declared
+pub mod ItemViews
 pub mod Spelling
 pub mod ReadBack

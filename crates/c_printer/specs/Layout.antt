@@ -3,8 +3,8 @@ use Rattle.std.specs.Prelude.{ℕ, Bool, true, false, ◌||◌, if◌then◌else
 use Rattle.c_tokens.specs.declared.token.Punct.TheVariants as punct
 use Rattle.c_tokens.specs.declared.token.Shape.{Shape}
 use Rattle.c_tokens.specs.declared.token.Shape.TheVariants as s
-use Rattle.c_trees.specs.declared.first.Declaration.{Declaration}
-use Rattle.c_printer.specs.Spelled.{spelled_declaration}
+use Rattle.syntax_trees.specs.declared.plain.PlainItem.{PlainItem}
+use Rattle.c_printer.specs.Spelled.{spelled_item}
 use Rattle.c_printer.specs.Texts.{text_of_shape}
 
 -- no space stands after an opening parenthesis or bracket
@@ -36,7 +36,7 @@ unfoldable pub line : List (List ℕ) → List Shape → List ℕ
 line names [] = []
 line names (a ∷ others) = text_of_shape names a ++ separator a others ++ line names others
 
--- the text of declarations, one a line
-unfoldable pub layout : List (List ℕ) → List Declaration → List ℕ
+-- the text of items, one a line
+unfoldable pub layout : List (List ℕ) → List PlainItem → List ℕ
 layout names [] = []
-layout names (t ∷ others) = line names (spelled_declaration t) ++ layout names others
+layout names (t ∷ others) = line names (spelled_item t) ++ layout names others

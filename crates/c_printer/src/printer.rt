@@ -1,24 +1,24 @@
-//! The text of declarations.
+//! The text of items.
 
 ghost use Rattle.std.specs.Prelude.{◌≡◌, true, false, IfOk};
 ghost use Rattle.syntax_trees.specs.Standings.{is_listed_exp};
 ghost use Rattle.c_printer.specs.Layout as layout;
 ghost use Rattle.c_printer.specs.ReadBack.{IsReadBack};
 
+use crate::declarations::item_shapes;
 use crate::lines::write_line;
-use crate::shapes::declaration_shapes;
 use c_tokens::{Memory, Words};
-use c_trees::Declaration;
+use c_trees::Item;
 use std::alloc::Global;
 
-/// The text of declarations, one a line. It takes time linear in the text.
-pub fn print(alloc: Global, items: &[Declaration], words: &Words) -> Result<Vec<u8>, Memory>
+/// The text of items, one a line. It takes time linear in the text.
+pub fn print(alloc: Global, items: &[Item], words: &Words) -> Result<Vec<u8>, Memory>
     ensures text { IfOk result (λ text. text.items ≡ layout.layout words.now items.now) }
     ensures read_back { IfOk result (λ text. IsReadBack words.now items.now text.items) }
 {
     let mut text = Vec::new(alloc);
     for item in items {
-        let shapes = declaration_shapes(alloc, item)?;
+        let shapes = item_shapes(alloc, item)?;
         write_line(&mut text, &shapes, words)?;
     }
     Ok(text)
@@ -28,7 +28,7 @@ pub fn print(alloc: Global, items: &[Declaration], words: &Words) -> Result<Vec<
 mod tests {
     use super::*;
     use c_tokens::Span;
-    use c_trees::{BinaryOperator, Exp, ExpForm, Node};
+    use c_trees::{BinaryOperator, Declaration, Exp, ExpForm, Node};
     use std::test::Fail;
 
     const AT: Span = Span { start: 0, end: 0 };
@@ -93,7 +93,18 @@ mod tests {
         let mut words = Words::new(alloc);
         let name = words.number(b"a")?;
         let value = tree(alloc, &mut words, notation)?;
-        print(alloc, &[Declaration { name, value }], &words)
+        if !is_single(&value) {
+            return Err(Memory);
+        }
+        let declaration = Declaration {
+            name,
+            value,
+            specifier: AT,
+            at: AT,
+            given: AT,
+            span: AT,
+        };
+        print(alloc, &[declaration.into_item(alloc)?], &words)
     }
 
     #[test]

@@ -1,13 +1,12 @@
-//! The tokens that spell a tree.
+//! The tokens that spell an expression.
 
-ghost use Rattle.std.specs.Prelude.{◌≡◌, [], ◌∷◌, ◌++◌, OnOk, IfOk, if◌then◌else◌};
+ghost use Rattle.std.specs.Prelude.{◌≡◌, [], ◌∷◌, ◌++◌, OnOk, if◌then◌else◌};
 ghost use Rattle.c_grammar.specs.Spells as spells;
-ghost use Rattle.c_printer.specs.Spelled.{spelled, spelled_declaration};
+ghost use Rattle.c_printer.specs.Spelled.{spelled};
 
 use c_grammar::{level_with, needs_parens};
-use c_tokens::{Key, Memory, Punct, Shape};
-use c_trees::{BinaryOperator, Declaration, Exp, ExpForm};
-use std::alloc::Global;
+use c_tokens::{Memory, Punct, Shape};
+use c_trees::{BinaryOperator, Exp, ExpForm};
 
 fn sign_of(operator: BinaryOperator) -> Shape
     ensures { result ≡ spells.sign_of operator }
@@ -45,7 +44,7 @@ fn push_if(shapes: &mut Vec<Shape>, wanted: bool, shape: Shape) -> Result<(), Me
 
 /// Adds the tokens of an expression at a place of this level.
 #[tactic(auto, using(crate::proofs::SpelledViews::nothing_written, c_grammar::proofs::LevelViews::level_view, syntax_trees::proofs::SizeViews::size_exp_view))]
-fn spell(shapes: &mut Vec<Shape>, expression: &Exp, place: u8) -> Result<(), Memory>
+pub fn spell(shapes: &mut Vec<Shape>, expression: &Exp, place: u8) -> Result<(), Memory>
     ensures { OnOk result (shapes.new.items ≡ shapes.old.items ++ spelled expression.now place) }
 {
     match expression.form() {
@@ -92,17 +91,4 @@ fn spell(shapes: &mut Vec<Shape>, expression: &Exp, place: u8) -> Result<(), Mem
         | ExpForm::Hole(_)
         | ExpForm::Call(_) => Ok(()),
     }
-}
-
-/// The tokens of a declaration.
-pub fn declaration_shapes(alloc: Global, declaration: &Declaration) -> Result<Vec<Shape>, Memory>
-    ensures { IfOk result (λ shapes. shapes.items ≡ spelled_declaration declaration.now) }
-{
-    let mut shapes = Vec::new(alloc);
-    shapes.push(Shape::Key(Key::Int))?;
-    shapes.push(Shape::Word(declaration.name))?;
-    shapes.push(Shape::Punct(Punct::Equal))?;
-    spell(&mut shapes, &declaration.value, 2)?;
-    shapes.push(Shape::Punct(Punct::Semicolon))?;
-    Ok(shapes)
 }

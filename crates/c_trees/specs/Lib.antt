@@ -1,3 +1,4 @@
 pub mod Calls
 pub mod Named
 pub mod Built
+pub mod Items

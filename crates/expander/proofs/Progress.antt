@@ -8,7 +8,9 @@ use Rattle.c_tokens.specs.declared.token.Shape.TheVariants.{End}
 use Rattle.c_tokens.specs.declared.token.Shape.TheVariants as s
 use Rattle.c_tokens.specs.declared.token.Key.TheVariants as key
 use Rattle.c_tokens.specs.declared.token.Mark.TheVariants as mark
+use Rattle.syntax_trees.specs.declared.plain.PlainItem.{PlainItem}
 use Rattle.c_trees.specs.declared.first.Declaration.{Declaration}
+use Rattle.c_trees.proofs.ItemViews.{built_single}
 use Rattle.c_trees.specs.declared.first.First.{First}
 use Rattle.c_trees.specs.declared.first.FirstItem.{FirstItem}
 use Rattle.c_grammar.specs.Reader.{shape_at}
@@ -37,7 +39,7 @@ use Rattle.expander.specs.declared.stop.Stop.TheVariants.{Syntax, TooDeep, Memor
 use Rattle.expander.specs.Meaning.{limit, name_of, defined, defined_by, Read, meaning_of, meaning, IsTranslation, Refused, IsTaken, IsRefusal, IsStop, stop_at, AreFew, IsReady, CanExpand, CanTake}
 
 -- what was read so far, the macro that is defined, and what is written
-pub record Progress (names : List (List ℕ)) (w : List Token) (first : Option First) (written : List Declaration) (at : ℕ) : Type 0 where
+pub record Progress (names : List (List ℕ)) (w : List Token) (first : Option First) (written : List PlainItem) (at : ℕ) : Type 0 where
   pub items : List FirstItem
   pub read : Read names w None items 0 at
   pub last : first ≡ defined_by None items
@@ -66,7 +68,7 @@ meaning_more first [] t = append-nil (meaning_of first t)
 meaning_more first (u ∷ ts) t = ap (λ x. meaning_of first u ++ x) (meaning_more (defined first u) ts t)
     ∙ sym (append_assoc (meaning_of first u) (meaning (defined first u) ts) (meaning_of (defined_by (defined first u) ts) t))
 
-pub more : (names : List (List ℕ)) (w : List Token) (first : Option First) (written : List Declaration) (at : ℕ) (t : FirstItem) (k : ℕ)
+pub more : (names : List (List ℕ)) (w : List Token) (first : Option First) (written : List PlainItem) (at : ℕ) (t : FirstItem) (k : ℕ)
     → Progress names w first written at → SpellsItem limit w names (name_of first) t at k → Progress names w (defined first t) (written ++ meaning_of first t) k
 more names w first written at t k P S = record {
   items = P.items ++ t ∷ [];
@@ -95,11 +97,11 @@ onward w names m t i j S =
 
 -- ---- the end
 
-pub finished : (names : List (List ℕ)) (w : List Token) (first : Option First) (written : List Declaration) (at : ℕ)
+pub finished : (names : List (List ℕ)) (w : List Token) (first : Option First) (written : List PlainItem) (at : ℕ)
     → Progress names w first written at → shape_at w at ≡ End → IsTranslation names w written
 finished names w first written at P e = record { items = P.items; source = record { after = at; read = P.read; ends = e }; value = P.value }
 
-pub stopped : (Refuses : List (List ℕ) → Option Word → List Token → ℕ → ℕ → Type 0) (names : List (List ℕ)) (w : List Token) (first : Option First) (written : List Declaration) (at k : ℕ)
+pub stopped : (Refuses : List (List ℕ) → Option Word → List Token → ℕ → ℕ → Type 0) (names : List (List ℕ)) (w : List Token) (first : Option First) (written : List PlainItem) (at k : ℕ)
     → Progress names w first written at → shape_at w at ≢ End → Refuses names (name_of first) w at k → Refused Refuses names w k
 stopped Refuses names w first written at k P more R = record {
   items = P.items;
@@ -109,17 +111,17 @@ stopped Refuses names w first written at k P more R = record {
   refused = subst (λ f. Refuses names (name_of f) w at k) P.last R;
 }
 
-pub taken : (names : List (List ℕ)) (w : List Token) (first : Option First) (written : List Declaration) (at : ℕ) (new_first : Option First) (new_written : List Declaration) (after : ℕ)
+pub taken : (names : List (List ℕ)) (w : List Token) (first : Option First) (written : List PlainItem) (at : ℕ) (new_first : Option First) (new_written : List PlainItem) (after : ℕ)
     → Progress names w first written at → IsTaken names w first written at new_first new_written after → Progress names w new_first new_written after
 taken names w first written at new_first new_written after P T =
     let Q : Progress names w (defined first T.item) (written ++ meaning_of first T.item) after = more names w first written at T.item after P T.read in
     record { items = Q.items; read = Q.read; last = T.first_is ∙ Q.last; value = T.written_is ∙ Q.value }
 
-pub nearer : (names : List (List ℕ)) (w : List Token) (first : Option First) (written : List Declaration) (at : ℕ) (new_first : Option First) (new_written : List Declaration) (after : ℕ)
+pub nearer : (names : List (List ℕ)) (w : List Token) (first : Option First) (written : List PlainItem) (at : ℕ) (new_first : Option First) (new_written : List PlainItem) (after : ℕ)
     → IsTaken names w first written at new_first new_written after → at < after
 nearer names w first written at new_first new_written after T = onward w names (name_of first) T.item at after T.read
 
-pub refused : (names : List (List ℕ)) (w : List Token) (first : Option First) (written : List Declaration) (at : ℕ) (stop : Stop)
+pub refused : (names : List (List ℕ)) (w : List Token) (first : Option First) (written : List PlainItem) (at : ℕ) (stop : Stop)
     → Progress names w first written at → shape_at w at ≢ End → IsRefusal names (name_of first) w at stop → IsStop names w stop
 refused names w first written at (Syntax span) P more R = (R.0, (stopped IsFirstDead names w first written at R.0 P more R.1.0, R.1.1))
 refused names w first written at (TooDeep span) P more R = (R.0, (stopped (IsTooDeep limit) names w first written at R.0 P more R.1.0, R.1.1))
@@ -166,7 +168,7 @@ module _ (names : List (List ℕ)) (w : List Token) (known : AreKnown names w) (
   semicolon e = cc e
 
   expandable : (first : Option First) (t : Declaration) (at after : ℕ) → IsReady names first at → SpellsDeclaration limit w (name_of first) t at after → CanExpand first t
-  expandable None t at after R S = tt
+  expandable None t at after R S = built_single t.value (built_value names w known limit None t at after S)
   expandable (Some f) t at after R S =
       let last : S.last < 1024 = early S.last (s.Punct punct.Semicolon) S.ends.0 semicolon in (
         value_built (Some names) true t.value (built_value names w known limit (Some f.name) t at after S),

@@ -14,7 +14,10 @@ use Rattle.c_grammar.specs.Laws.{IsFirstDead, IsTooDeep}
 use Rattle.c_grammar.specs.declared.refusal.Refusal.{Refusal}
 use Rattle.c_grammar.specs.declared.refusal.Refusal.TheVariants as refusal
 use Rattle.syntax_trees.specs.Measures.{height_of_exp}
+use Rattle.syntax_trees.specs.Standings.{is_listed_exp}
+use Rattle.syntax_trees.specs.declared.plain.PlainItem.{PlainItem}
 use Rattle.c_trees.specs.Built.{Built}
+use Rattle.c_trees.specs.Items.{item_of}
 use Rattle.templates.specs.Filling.{expanded}
 use Rattle.templates.specs.Forms.{is_template, is_value}
 use Rattle.expander.specs.declared.stop.Stop.{Stop}
@@ -61,19 +64,19 @@ value_under (Some f) t = record t { value = expanded f.template t.value }
 value_under None t = t
 
 -- a definition leaves nothing
-abbrev pub meaning_of : Option First → FirstItem → List Declaration
-meaning_of first (item.Declaration t) = value_under first t ∷ []
+abbrev pub meaning_of : Option First → FirstItem → List PlainItem
+meaning_of first (item.Declaration t) = item_of (value_under first t) ∷ []
 meaning_of first (item.Definition f) = []
 
--- the declarations that items stand for
-unfoldable pub meaning : Option First → List FirstItem → List Declaration
+-- the items of plain C that items stand for
+unfoldable pub meaning : Option First → List FirstItem → List PlainItem
 meaning first [] = []
 meaning first (t ∷ ts) = meaning_of first t ++ meaning (defined first t) ts
 
 -- ---- the answers
 
--- the tokens are items that stand for these declarations
-pub record IsTranslation (names : List (List ℕ)) (w : List Token) (written : List Declaration) : Type 0 where
+-- the tokens are items that stand for these items of plain C
+pub record IsTranslation (names : List (List ℕ)) (w : List Token) (written : List PlainItem) : Type 0 where
   pub items : List FirstItem
   pub source : IsSource names w items
   pub value : written ≡ meaning None items
@@ -95,8 +98,8 @@ IsStop names w Memory = Unit {0}
 -- ---- parts of the code
 
 -- one item was read at a place and taken in
-pub record IsTaken (names : List (List ℕ)) (w : List Token) (first : Option First) (written : List Declaration) (at : ℕ)
-    (new_first : Option First) (new_written : List Declaration) (after : ℕ) : Type 0 where
+pub record IsTaken (names : List (List ℕ)) (w : List Token) (first : Option First) (written : List PlainItem) (at : ℕ)
+    (new_first : Option First) (new_written : List PlainItem) (after : ℕ) : Type 0 where
   pub item : FirstItem
   pub read : SpellsItem limit w names (name_of first) item at after
   pub first_is : new_first ≡ defined first item
@@ -129,7 +132,7 @@ IsReady names None at = Unit {0}
 -- the value of a declaration can be expanded under the macro
 abbrev pub CanExpand : Option First → Declaration → Type 0
 CanExpand (Some f) t = (is_value t.value ≡ true) × ((is_template f.template ≡ true) × (height_of_exp t.value + height_of_exp f.template ≤ 1000))
-CanExpand None t = Unit {0}
+CanExpand None t = is_listed_exp t.value ≡ false
 
 abbrev pub CanTake : Option First → FirstItem → Type 0
 CanTake first (item.Declaration t) = CanExpand first t

@@ -4,18 +4,19 @@ ghost use Rattle.std.specs.Prelude.{◌≡◌, ◌++◌, ◌↔◌, IfOk, IfErr,
 ghost use Rattle.c_tokens.specs.declared.token.Shape.TheVariants.{End};
 ghost use Rattle.c_grammar.specs.Reader.{shape_at, token_at};
 ghost use Rattle.c_grammar.specs.Laws.{AreKnown};
+ghost use Rattle.c_trees.specs.Items.{item_of};
 ghost use Rattle.expander.specs.Meaning.{AreFew, IsReady, CanExpand, CanTake, seen, IsTranslation, IsStop, IsTaken, IsRefusal, name_of, defined, meaning_of, value_seen, stop_at};
 
 use crate::stop::Stop;
 use c_parser::{Refusal, read_item};
 use c_tokens::{Memory, Shape, Span, Token, Words};
-use c_trees::{Declaration, First, FirstItem};
+use c_trees::{Declaration, First, FirstItem, Item};
 use sqlite_items::Items;
 use std::alloc::Global;
 use templates::expand;
 
-/// The declarations that all items of the tokens stand for.
-pub fn feed(alloc: Global, tokens: &[Token], words: &Words) -> Result<Items<Declaration>, Stop>
+/// The items of plain C that all items of the tokens stand for.
+pub fn feed(alloc: Global, tokens: &[Token], words: &Words) -> Result<Items<Item>, Stop>
     requires known { AreKnown words.now tokens.now }
     requires few { AreFew tokens.now }
     ensures translated { IfOk result (λ written. IsTranslation words.now tokens.now written) }
@@ -37,7 +38,7 @@ fn take_next(
     at: usize,
     words: &Words,
     first: &mut Option<First>,
-    written: &mut Items<Declaration>,
+    written: &mut Items<Item>,
 ) -> Result<usize, Stop>
     requires known { AreKnown words.now tokens.now }
     requires few { AreFew tokens.now }
@@ -70,7 +71,7 @@ fn take(
     alloc: Global,
     item: FirstItem,
     first: &mut Option<First>,
-    written: &mut Items<Declaration>,
+    written: &mut Items<Item>,
 ) -> Result<(), Memory>
     requires { CanTake first.old item }
     ensures first { OnOk result (first.new ≡ defined first.old item) }
@@ -81,31 +82,36 @@ fn take(
             *first = Some(definition);
         }
         FirstItem::Declaration(declaration) => {
-            let declaration = expanded(alloc, declaration, first.as_ref())?;
-            written.push(declaration)?;
+            let item = expanded(alloc, declaration, first.as_ref())?;
+            written.push(item)?;
         }
     }
     Ok(())
 }
 
-/// The declaration with each call in its value expanded.
+/// The item of a declaration with each call in its value expanded.
 fn expanded(
     alloc: Global,
     declaration: Declaration,
     first: Option<&First>,
-) -> Result<Declaration, Memory>
+) -> Result<Item, Memory>
     requires { CanExpand (seen first) declaration }
-    ensures { IfOk result (λ made. made ≡ value_seen first.entry declaration) }
+    ensures { IfOk result (λ made. made ≡ item_of (value_seen first.entry declaration)) }
 {
     match first {
         Some(definition) => {
             let value = expand(alloc, &declaration.value, &definition.template)?;
-            Ok(Declaration {
+            let declaration = Declaration {
                 name: declaration.name,
                 value,
-            })
+                specifier: declaration.specifier,
+                at: declaration.at,
+                given: declaration.given,
+                span: declaration.span,
+            };
+            declaration.into_item(alloc)
         }
-        None => Ok(declaration),
+        None => declaration.into_item(alloc),
     }
 }
 

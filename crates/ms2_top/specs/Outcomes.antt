@@ -1,13 +1,13 @@
 -- What comes of the bytes of a source.
-use Rattle.std.specs.Prelude.{◌≡◌, ℕ, Bool, List, [], None, Ok}
+use Rattle.std.specs.Prelude.{◌≡◌, ℕ, List, [], None, Ok}
 use Rattle.std.specs.List.{AllPass}
 use Rattle.c_tokens.specs.declared.token.Token.{Token}
 use Rattle.c_tokens.specs.declared.token.Shape.TheVariants.{End}
 use Rattle.c_tokens.specs.declared.lexical.Dialect.TheVariants.{C90}
 use Rattle.c_tokens.specs.declared.lexical.LexCause.{LexCause}
 use Rattle.c_tokens.specs.Tokens.{tokens_of, gained, bad}
-use Rattle.syntax_trees.specs.Measures.{is_pure_exp}
-use Rattle.c_trees.specs.declared.first.Declaration.{Declaration}
+use Rattle.syntax_trees.specs.Measures.{is_pure_item}
+use Rattle.syntax_trees.specs.declared.plain.PlainItem.{PlainItem}
 use Rattle.c_trees.specs.declared.first.FirstItem.{FirstItem}
 use Rattle.c_grammar.specs.Reader.{shape_at}
 use Rattle.c_printer.specs.Layout.{layout}
@@ -23,9 +23,9 @@ texts_of bytes = gained C90 [] bytes
 
 -- ---- plain C
 
--- The text is a list of tokens that spell these declarations in turn in the plain C grammar, in some depth. A word's
+-- The text is a list of tokens that spell these items in turn in the plain C grammar, in some depth. A word's
 -- number is that of its text among `names`.
-pub record IsPlain (names : List (List ℕ)) (text : List ℕ) (written : List Declaration) : Type 0 where
+pub record IsPlain (names : List (List ℕ)) (text : List ℕ) (written : List PlainItem) : Type 0 where
   pub tokens : List Token
   pub lexed : tokens_of C90 names text ≡ Ok tokens
   pub depth : ℕ
@@ -41,21 +41,17 @@ pub record IsSourceOf (bytes : List ℕ) (items : List FirstItem) : Type 0 where
   pub lexed : tokens_of C90 (texts_of bytes) bytes ≡ Ok tokens
   pub read : IsSource (texts_of bytes) tokens items
 
--- whether a declaration has no extension node
-abbrev pub is_pure_declaration : Declaration → Bool
-is_pure_declaration t = is_pure_exp t.value
-
--- The text is that of the declarations that the source's items stand for, which are free of calls and placeholders.
--- Its only reading in the plain C grammar is these declarations, spans aside.
+-- The text is that of the items of plain C that the source's items stand for, which are free of calls and placeholders.
+-- Its only reading in the plain C grammar is these items, spans aside.
 pub record IsTextOf (bytes text : List ℕ) : Type 0 where
   pub items : List FirstItem
   pub source : IsSourceOf bytes items
   pub value : text ≡ layout (texts_of bytes) (meaning None items)
-  pub pure : AllPass is_pure_declaration (meaning None items)
-  pub read : List Declaration
+  pub pure : AllPass is_pure_item (meaning None items)
+  pub read : List PlainItem
   pub same : AreSame (meaning None items) read
   pub reading : IsPlain (texts_of bytes) text read
-  pub only : (others : List Declaration) → IsPlain (texts_of bytes) text others → others ≡ read
+  pub only : (others : List PlainItem) → IsPlain (texts_of bytes) text others → others ≡ read
 
 -- No items are a reading of the bytes.
 abbrev pub HasNoReading : List ℕ → Type 0

@@ -1,2 +1,2 @@
-mod Lengths
-mod SameViews
+pub mod Lengths
+pub mod SameViews

@@ -1,5 +1,5 @@
 use Rattle.std.proofs.Common.{◌+◌, ◌++◌, drop, ap, sym, ◌∙◌, subst, arith}
-use Rattle.c_printer.specs.Spelled.{spelled_declaration}
+use Rattle.c_printer.specs.Spelled.{spelled_item}
 use Rattle.c_printer.specs.Layout.{line, layout}
 use Rattle.c_printer.specs.ReadBack.{IsReadBack}
 use Rattle.c_printer.proofs.ReadBack.{layout_is_read_back}
@@ -11,7 +11,7 @@ loop-item-preserved c =
     let names = c.args.words.now in
     let items = c.args.items.now in
     let at = c.loop-item.item-index in
-    let written = ap (line names) (c.deref.ensures.value ∙ c.in_ok-shapes.ensures) ∙ ap (λ t. line names (spelled_declaration t)) c.item-item.is in
+    let written = ap (line names) (c.deref.ensures.value ∙ c.in_ok-shapes.ensures) ∙ ap (λ t. line names (spelled_item t)) c.item-item.is in
     ap (λ u. u ++ layout names (drop (at + 1) items)) c.in_ok-write_line.ensures
     ∙ layout_steps names items at c.item-item.result c.loop-item.text.items _ _ c.loop-item-test.true written c.loop-item.invariant
 
