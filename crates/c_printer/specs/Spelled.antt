@@ -128,4 +128,3 @@ depth_of = fold-PlainExp (Unit {0}) (Unit {0}) (Unit {0}) (Unit {0}) (ℕ → �
     {0}) (Unit {0}) (Unit {0}) (Unit {0}) (Unit {0}) (Unit {0}) (Unit {0}) (Unit {0}) (Unit {0}) (Unit {0}) (Unit {0}) (λ
     l. tt) (λ l. tt) (λ l. tt) (λ l. tt) depth_at (λ l. tt) (λ l. tt) (λ l. tt) (λ l. tt) (λ l. tt) (λ l. tt) (λ l. tt) (λ
     l. tt) (λ l. tt) (λ l. tt) (λ l. tt) (λ l. tt) (λ l. tt) (λ l. tt) (λ l. tt)
-

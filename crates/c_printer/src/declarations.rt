@@ -32,7 +32,9 @@ fn push_decl(shapes: &mut Vec<Shape>, decl: &Decl) -> Result<(), Memory>
 {
     match decl.form() {
         DeclForm::Of {
-            specs, declarators, ..
+            specs,
+            declarators,
+            ..
         } => {
             push_specs(shapes, specs)?;
             push_lone_declarator(shapes, declarators.as_slice())?;
@@ -90,10 +92,7 @@ fn push_lone_declarator(
 }
 
 #[tactic(auto, using(crate::proofs::ItemViews::added, crate::proofs::ItemViews::spelled_init_declarator_view))]
-fn push_init_declarator(
-    shapes: &mut Vec<Shape>,
-    declarator: &InitDeclarator,
-) -> Result<(), Memory>
+fn push_init_declarator(shapes: &mut Vec<Shape>, declarator: &InitDeclarator) -> Result<(), Memory>
     ensures { OnOk result (shapes.new.items ≡ shapes.old.items ++ spelled_init_declarator declarator.now) }
 {
     let form = declarator.form();

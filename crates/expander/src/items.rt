@@ -90,11 +90,7 @@ fn take(
 }
 
 /// The item of a declaration with each call in its value expanded.
-fn expanded(
-    alloc: Global,
-    declaration: Declaration,
-    first: Option<&First>,
-) -> Result<Item, Memory>
+fn expanded(alloc: Global, declaration: Declaration, first: Option<&First>) -> Result<Item, Memory>
     requires { CanExpand (seen first) declaration }
     ensures { IfOk result (λ made. made ≡ item_of (value_seen first.entry declaration)) }
 {
