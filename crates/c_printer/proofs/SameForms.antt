@@ -1,5 +1,5 @@
 -- Sameness of the forms that are read.
-use Rattle.std.proofs.Common.{◌≡◌, refl, ap, sym, subst, ◌∙◌, Bool, true, ◌&&◌, [], ◌∷◌, Some}
+use Rattle.std.proofs.Common.{◌≡◌, refl, ap, sym, subst, ◌∙◌, Bool, true, false, ◌&&◌, [], ◌∷◌, Some}
 use Rattle.std.proofs.lemmas.Bool.{eq-eqb}
 use Rattle.c_tokens.specs.declared.span.Span.{Span}
 use Rattle.c_tokens.specs.declared.token.Word.{Word}
@@ -94,6 +94,7 @@ and_true b e = ap (λ b. b && true) e
 
 both_true : (a b : Bool) → a ≡ true → b ≡ true → (a && b) ≡ true
 both_true true b e h = h
+both_true false b e h = e
 
 specs_same : (t u : Declaration) → same_specs (specs_view (specs_form t)) (specs_view (specs_form u)) ≡ true
 specs_same t u = same_specs_view (specs_form t) (specs_form u) ∙ and_true _ (same_spec_view (kSpec.Basic basic.Int t.specifier) (kSpec.Basic basic.Int u.specifier))
