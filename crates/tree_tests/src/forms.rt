@@ -1,9 +1,11 @@
-//! Each form once, with its numbers, and told apart from every other.
+//! Each form once, with its numbers, and told apart from the others of its table.
 
 use crate::build::build;
 use crate::part::{Measures, Part};
 use crate::step::Step;
-use crate::tables::{ARGUMENTS, BROKEN, DECLARATORS, EXPRESSIONS, Row, SPECIFIERS, STATEMENTS};
+use crate::tables::{
+    ARGUMENTS, BROKEN, DECLARATORS, ITEMS, JUMPS, OPERANDS, OPERATIONS, Row, SPECIFIERS, STATEMENTS,
+};
 use c_tokens::Memory;
 use sqlite_items::Items;
 use std::alloc::Global;
@@ -69,9 +71,16 @@ fn faults(alloc: Global, rows: &[Row]) -> Result<(usize, usize), Memory> {
 }
 
 #[test]
-fn expressions(rt: HostRuntime) -> Result<(), Fail> {
+fn operands(rt: HostRuntime) -> Result<(), Fail> {
     let alloc = rt.alloc();
-    assert_eq!(rt; faults(alloc, &EXPRESSIONS)?, (0, 0));
+    assert_eq!(rt; faults(alloc, &OPERANDS)?, (0, 0));
+    Ok(())
+}
+
+#[test]
+fn operations(rt: HostRuntime) -> Result<(), Fail> {
+    let alloc = rt.alloc();
+    assert_eq!(rt; faults(alloc, &OPERATIONS)?, (0, 0));
     Ok(())
 }
 
@@ -93,6 +102,20 @@ fn declarators(rt: HostRuntime) -> Result<(), Fail> {
 fn statements(rt: HostRuntime) -> Result<(), Fail> {
     let alloc = rt.alloc();
     assert_eq!(rt; faults(alloc, &STATEMENTS)?, (0, 0));
+    Ok(())
+}
+
+#[test]
+fn jumps(rt: HostRuntime) -> Result<(), Fail> {
+    let alloc = rt.alloc();
+    assert_eq!(rt; faults(alloc, &JUMPS)?, (0, 0));
+    Ok(())
+}
+
+#[test]
+fn items(rt: HostRuntime) -> Result<(), Fail> {
+    let alloc = rt.alloc();
+    assert_eq!(rt; faults(alloc, &ITEMS)?, (0, 0));
     Ok(())
 }
 

@@ -8,11 +8,11 @@ use syntax_trees::{
 };
 
 /// A tree, its size and height, whether it is C alone, and whether it is a statement that ends open.
-/// No two rows tell one tree.
+/// No two rows of a table tell one tree.
 pub struct Row(pub &'static [Step], pub u64, pub u32, pub bool, pub bool);
 
-/// Expressions and type names (6.3, 6.5.5).
-pub static EXPRESSIONS: [Row; 107] = [
+/// Primary, postfix and unary expressions, casts and type names (6.3.1 to 6.3.4, 6.5.5).
+pub static OPERANDS: [Row; 52] = [
     Row(&[Step::Name(1, 0)], 1, 0, true, false),
     Row(&[Step::Name(2, 0)], 1, 0, true, false),
     Row(&[Step::Int(1)], 1, 0, true, false),
@@ -275,6 +275,10 @@ pub static EXPRESSIONS: [Row; 107] = [
         true,
         false,
     ),
+];
+
+/// Operators between operands, placeholders and calls (6.3.5 to 6.3.17).
+pub static OPERATIONS: [Row; 55] = [
     Row(
         &[
             Step::Name(1, 0),
@@ -1861,8 +1865,8 @@ pub static DECLARATORS: [Row; 58] = [
     ),
 ];
 
-/// Blocks, statements and external declarations (6.6, 6.7).
-pub static STATEMENTS: [Row; 95] = [
+/// Blocks, labelled statements, expression statements, choices and loops (6.6.1 to 6.6.5).
+pub static STATEMENTS: [Row; 47] = [
     Row(&[Step::Block(0, 0)], 1, 1, true, false),
     Row(
         &[Step::Name(1, 0), Step::Express, Step::Block(0, 1)],
@@ -2356,6 +2360,10 @@ pub static STATEMENTS: [Row; 95] = [
         true,
         false,
     ),
+];
+
+/// Jumps, placeholders and calls, and statements over them (6.6.6).
+pub static JUMPS: [Row; 32] = [
     Row(&[Step::Goto(Ident::W(41, 0))], 1, 0, true, false),
     Row(&[Step::Goto(Ident::W(42, 0))], 1, 0, true, false),
     Row(&[Step::Goto(Ident::H(1))], 2, 1, false, false),
@@ -2641,6 +2649,10 @@ pub static STATEMENTS: [Row; 95] = [
         false,
         false,
     ),
+];
+
+/// External declarations (6.7).
+pub static ITEMS: [Row; 16] = [
     Row(
         &[
             Step::Typedef(31, 0),
