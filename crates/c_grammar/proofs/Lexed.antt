@@ -2,7 +2,7 @@
 use Rattle.std.proofs.Common.{◌≡◌, refl, ap, sym, subst, ◌∙◌, ℕ, zero, suc, ◌+◌, ◌<◌, Bool, true, false, ◌||◌, ◌&&◌, cond, List, [], ◌∷◌, ◌++◌, length, Option, Some, None, Result, Ok, Err, is_some, position, unwrap_or, bytes_eq, nat_lt}
 use Rattle.std.specs.Prelude.{slice_index_or}
 use Rattle.std.specs.List.{list_any}
-use Rattle.std.proofs.lemmas.Bool.{lt-ltb}
+use Rattle.std.proofs.lemmas.Bool.{lt-ltb, and_from}
 use Rattle.std.proofs.lemmas.List.Quantifiers.{position-Some}
 use Rattle.std.proofs.lemmas.List.Folds.{list_any-append}
 use Rattle.std.proofs.lemmas.Slice.Eq.{bytes_eq-Decides}
@@ -14,7 +14,6 @@ use Rattle.c_tokens.specs.Skipped.{stands_first}
 use Rattle.c_tokens.specs.Spelling.{Sort, keyword, punctuator, mark, word, integer, floating, character, string, Spelling, space, marker, token, refused, spelling_of}
 use Rattle.c_tokens.specs.Tokens.{Piece, Bad, bad, meaning, number_in, shape_of, before, adds, tokens_in, pieces, tokens_of, with_text, gains, gained_in, gained, token_at as made}
 use Rattle.c_trees.specs.Named.{is_word_spelling, is_integer_spelling}
-use Rattle.c_trees.proofs.Bools.{both}
 use Rattle.c_grammar.specs.Laws.{IsKnown, AreKnown}
 
 -- ---- texts of a table
@@ -126,7 +125,7 @@ passes : (names : List (List ℕ)) (text : List ℕ) (sort : Sort) (test : Optio
     → (nat_lt (number_in names text) (length names) && test (spelling_of C90 (slice_index_or names (number_in names text) []))) ≡ true
 passes names text sort test h m t =
     let F = found names text (position (bytes_eq text) names) refl (sym (list_any-position (bytes_eq text) names) ∙ h) in
-    both _ _ (lt-ltb _ _ F.0) (ap (λ x. test (spelling_of C90 x)) F.1 ∙ ap test m ∙ t)
+    and_from _ _ (lt-ltb _ _ F.0) (ap (λ x. test (spelling_of C90 x)) F.1 ∙ ap test m ∙ t)
 
 numbered_below : (names : List (List ℕ)) (text : List ℕ) → Has names text → number_in names text < length names
 numbered_below names text h = (found names text (position (bytes_eq text) names) refl (sym (list_any-position (bytes_eq text) names) ∙ h)).0

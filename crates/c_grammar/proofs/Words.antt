@@ -3,7 +3,7 @@ use Rattle.std.proofs.Common.{◌≡◌, ◌⊎◌, inl, inr, refl, subst, ap, s
 use Rattle.std.specs.Prelude.{slice_index_or}
 use Rattle.std.specs.Bool.{Decides}
 use Rattle.std.specs.Str.{bytes_eq}
-use Rattle.std.proofs.lemmas.Bool.{cases_lt}
+use Rattle.std.proofs.lemmas.Bool.{cases_lt, lt-ltb, ltb-true, and_from, and_parts}
 use Rattle.std.proofs.lemmas.Bool.Decides.{Decides-eqb}
 use Rattle.std.proofs.lemmas.List.{append-nil}
 use Rattle.std.proofs.lemmas.Slice.Eq.{bytes_eq-Decides}
@@ -20,10 +20,7 @@ use Rattle.c_tokens.specs.Literals.{starts_literal, starts_with_quote, starts_wi
 use Rattle.c_tokens.specs.Skipped.{starts_comment, starts_with_byte, starts_directive, starts_percent_colon}
 use Rattle.c_tokens.specs.Spelling.{Spelling, spelling_of, word_spelling, find_text, keywords, is_word, is_marked_word, is_word_after_at, is_number, goes_on_number, number_spelling, plain_spelling}
 use Rattle.c_trees.specs.Named.{is_word_spelling, is_integer_spelling}
-use Rattle.c_trees.proofs.Bools.{both, first_of_both, second_of_both}
 use Rattle.std.proofs.Common.{nat_lt, ◌&&◌}
-use Rattle.std.proofs.lemmas.Bool.{lt-ltb}
-use borrow.Author.Tests.{ltb-true}
 
 abbrev at : List (List ℕ) → ℕ → List ℕ
 at names n = slice_index_or names n []
@@ -121,10 +118,10 @@ abbrev word : ℕ → Word
 word n = record { 0 = n }
 
 is_a_word : (names : List (List ℕ)) (text : List ℕ) (h : Has names text) → is_word_spelling (spelling_of C90 text) ≡ true → IsKnown names (s.Word (word h.number))
-is_a_word names text h e = both _ _ (lt-ltb h.number (length names) h.within) (ap (λ t. is_word_spelling (spelling_of C90 t)) h.found ∙ e)
+is_a_word names text h e = and_from _ _ (lt-ltb h.number (length names) h.within) (ap (λ t. is_word_spelling (spelling_of C90 t)) h.found ∙ e)
 
 is_a_constant : (names : List (List ℕ)) (text : List ℕ) (h : Has names text) → is_integer_spelling (spelling_of C90 text) ≡ true → IsKnown names (s.Int (word h.number))
-is_a_constant names text h e = both _ _ (lt-ltb h.number (length names) h.within) (ap (λ t. is_integer_spelling (spelling_of C90 t)) h.found ∙ e)
+is_a_constant names text h e = and_from _ _ (lt-ltb h.number (length names) h.within) (ap (λ t. is_integer_spelling (spelling_of C90 t)) h.found ∙ e)
 
 -- Texts with the name of the kind of expressions, a constant, and a name that an item may declare.
 pub record Enough (names : List (List ℕ)) (m : Option Word) : Type 0 where
@@ -193,14 +190,14 @@ enough names m D =
 
 -- a number with a text that passes a test is within the table
 pub within_table : (names : List (List ℕ)) (n : Word) (test : Option Spelling → Bool) → (nat_lt n.0 (length names) && test (spelling_of C90 (at names n.0))) ≡ true → n.0 < length names
-within_table names n test h = ltb-true n.0 (length names) (first_of_both _ _ h)
+within_table names n test h = ltb-true n.0 (length names) (and_parts _ _ h).0
 
 longer : (names more : List (List ℕ)) (n : Word) (test : Option Spelling → Bool) → (nat_lt n.0 (length names) && test (spelling_of C90 (at names n.0))) ≡ true
     → (nat_lt n.0 (length (names ++ more)) && test (spelling_of C90 (at (names ++ more) n.0))) ≡ true
 longer names more n test h =
     let less : n.0 < length names = within_table names n test h in
     let more_less : n.0 < length (names ++ more) = omega (arith, length-append names more) in
-    both _ _ (lt-ltb n.0 (length (names ++ more)) more_less) (ap (λ t. test (spelling_of C90 t)) (at_left names more n.0 less) ∙ second_of_both _ _ h)
+    and_from _ _ (lt-ltb n.0 (length (names ++ more)) more_less) (ap (λ t. test (spelling_of C90 t)) (at_left names more n.0 less) ∙ (and_parts _ _ h).1)
 
 pub known_more : (names more : List (List ℕ)) (x : Shape) → IsKnown names x → IsKnown (names ++ more) x
 known_more names more (s.Word n) h = longer names more n is_word_spelling h

@@ -5,7 +5,7 @@ use Rattle.c_tokens.specs.declared.token.Key.TheVariants as key
 use Rattle.c_tokens.specs.declared.token.Punct.TheVariants as punct
 use Rattle.c_tokens.specs.declared.token.Shape.{Shape}
 use Rattle.c_tokens.specs.declared.token.Shape.TheVariants as s
-use Rattle.syntax_trees.specs.Views.{spec_view, specs_view, specs_of, declarator_view, init_view, init_declarator_view, init_declarator_of, decl_view, item_view}
+use Rattle.syntax_trees.specs.Views.{spec_view, specs_view, declarator_view, init_view, init_declarator_view, decl_view, item_view}
 use Rattle.syntax_trees.specs.declared.parts.BasicType.TheVariants as basic
 use Rattle.syntax_trees.specs.declared.parts.IdPart.TheVariants as id
 use Rattle.syntax_trees.specs.declared.nodes.SpecForm.{SpecForm}
@@ -23,9 +23,8 @@ use Rattle.syntax_trees.specs.declared.nodes.ItemForm.TheVariants as kItem
 use Rattle.syntax_trees.specs.declared.plain.PlainDecl.TheVariants as decl
 use Rattle.syntax_trees.specs.declared.plain.PlainDeclarator.TheVariants as declarator
 use Rattle.syntax_trees.specs.declared.plain.PlainInit.TheVariants as init
-use Rattle.syntax_trees.specs.declared.plain.PlainSpec.TheVariants as spec
-use Rattle.syntax_trees.specs.declared.plain.PlainInitDeclarator.{PlainInitDeclarator, out-roll-PlainInitDeclarator}
-use Rattle.syntax_trees.specs.declared.plain.PlainSpecs.{PlainSpecs, out-roll-PlainSpecs}
+use Rattle.syntax_trees.specs.declared.plain.PlainInitDeclarator.{out-roll-PlainInitDeclarator}
+use Rattle.syntax_trees.specs.declared.plain.PlainSpecs.{out-roll-PlainSpecs}
 use Rattle.syntax_trees.specs.declared.plain.PlainArgument.TheViews.{
   outs-Storage,
   outs-Qualifier,
@@ -52,6 +51,7 @@ use Rattle.syntax_trees.specs.declared.plain.PlainArgument.TheViews.{
 }
 use Rattle.c_trees.specs.Items.{item_of}
 use Rattle.c_trees.specs.declared.first.Declaration.{Declaration}
+use Rattle.c_trees.proofs.ItemViews.{specs_form, declarator_form, specs_in, declarator_in}
 use Rattle.c_printer.specs.Spelled.{spelled, spelled_declaration, spelled_basic, spelled_spec_parts, spelled_spec, spelled_lone_spec, spelled_specs, spelled_id, spelled_declarator_parts, spelled_declarator, spelled_init_parts, spelled_init, spelled_held_init, spelled_init_declarator, spelled_lone_declarator, spelled_decl_parts, spelled_decl, spelled_item_parts, spelled_item}
 
 abbrev pub spelled_form_spec : SpecForm → List Shape
@@ -120,17 +120,11 @@ pub ruleset added = (append-nil, append_assoc)
 
 -- ---- the item of a declaration
 
-abbrev specs_in : Declaration → PlainSpecs
-specs_in t = specs_of (spec.Basic basic.Int t.specifier ∷ [])
-
-abbrev declarator_in : Declaration → PlainInitDeclarator
-declarator_in t = init_declarator_of (declarator.Named (id.Word t.name t.at) t.at) (Some (init.InitOne t.value t.given))
-
 specs_spelled : (t : Declaration) → spelled_specs (specs_in t) ≡ s.Key key.Int ∷ []
-specs_spelled t = spelled_specs_view (record { specs = spec.Basic basic.Int t.specifier ∷ [] }) ∙ spelled_spec_view (kSpec.Basic basic.Int t.specifier)
+specs_spelled t = spelled_specs_view (specs_form t) ∙ spelled_spec_view (kSpec.Basic basic.Int t.specifier)
 
 declarator_spelled : (t : Declaration) → spelled_init_declarator (declarator_in t) ≡ s.Word t.name ∷ s.Punct punct.Equal ∷ spelled t.value 2
-declarator_spelled t = spelled_init_declarator_view (record { declarator = declarator.Named (id.Word t.name t.at) t.at; init = Some (init.InitOne t.value t.given) })
+declarator_spelled t = spelled_init_declarator_view (declarator_form t)
     ∙ ap (λ u. u ++ s.Punct punct.Equal ∷ spelled_init (init.InitOne t.value t.given)) (spelled_declarator_view (kDeclarator.Named (id.Word t.name t.at) t.at))
     ∙ ap (λ u. s.Word t.name ∷ s.Punct punct.Equal ∷ u) (spelled_init_view (kInit.One t.value t.given))
 

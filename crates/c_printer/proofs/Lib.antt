@@ -1,4 +1,3 @@
-pub mod Bools
 pub mod Steps
 pub mod SpelledViews
 pub mod SameForms

@@ -1,7 +1,7 @@
 -- The longest spelling at a place where a spelling stands that none goes on.
 use Rattle.std.proofs.Common.{◌≡◌, refl, ap, ◌∙◌, subst, ℕ, Bool, true, false, ◌&&◌, ◌||◌, not, nat_eq, cond, bytes_eq, List, [], ◌∷◌, ◌++◌, Some, None, is_some}
 use Rattle.std.specs.List.{list_all}
-use Rattle.std.proofs.lemmas.Bool.{eqb-true}
+use Rattle.std.proofs.lemmas.Bool.{eqb-true, and_parts, and_right, or_right}
 use Rattle.std.proofs.lemmas.Slice.Eq.{bytes_eq-Decides}
 use Rattle.c_tokens.specs.Bytes.{is_digit, is_letter, is_word_byte, is_white_space, is_sign, is_exponent_mark, is_quote}
 use Rattle.c_tokens.specs.declared.lexical.Dialect.TheVariants.{C90}
@@ -12,7 +12,6 @@ use Rattle.c_tokens.specs.Runs.{opens}
 use Rattle.c_tokens.specs.Spelling.{Table, Sort, token, spelling_of, plain_spelling, stray_spelling, sign_spelling, find_text, punctuators, sign_marks, is_word, is_marked_word, is_word_after_at, is_number, goes_on_number, is_space}
 use Rattle.c_printer.proofs.Opens.{opens_further, IsPlainSort, plain_opens}
 use Rattle.c_tokens.proofs.Tables.{spelling-plain}
-use Rattle.c_printer.proofs.Bools.{and_first, and_second, and_false, or_true}
 
 -- no spelling begins with this text and then this byte
 abbrev pub NoLonger : List ℕ → ℕ → Type 0
@@ -58,9 +57,9 @@ not_both false h k = absurd (cc)
 unfound : {A : Type 0} (q : List ℕ → Bool) (text : List ℕ) (table : Table A) → q text ≡ true → list_all (λ entry. not (q entry.0)) table ≡ true → find_text text table ≡ None
 unfolding find_text
 unfound q text [] h k = refl
-unfound q text (entry ∷ others) h k = tested (bytes_eq text entry.0) refl (unfound q text others h (and_second _ _ k)) where
+unfound q text (entry ∷ others) h k = tested (bytes_eq text entry.0) refl (unfound q text others h (and_parts _ _ k).1) where
   tested : (b : Bool) → bytes_eq text entry.0 ≡ b → find_text text others ≡ None → cond b (Some entry.1) (find_text text others) ≡ None
-  tested true e none = absurd (not_both (q entry.0) (subst (λ u. q u ≡ true) ((bytes_eq-Decides text entry.0).0 e) h) (and_first _ _ k))
+  tested true e none = absurd (not_both (q entry.0) (subst (λ u. q u ≡ true) ((bytes_eq-Decides text entry.0).0 e) h) (and_parts _ _ k).0)
   tested false e none = none
 
 -- a token that is no literal
@@ -95,34 +94,34 @@ unspelled text o h1 h2 h3 h4 h5 = spelling-plain C90 text o ∙ rw (h1, h2, h3, 
 module _ (c : ℕ) (breaks : Breaks c) where
   has_it : (t p : List ℕ) → has c (t ++ c ∷ p) ≡ true
   has_it [] p = rw breaks.itself
-  has_it (b ∷ t) p = or_true (nat_eq b c) _ (has_it t p)
+  has_it (b ∷ t) p = or_right (nat_eq b c) _ (has_it t p)
 
   not_all : (t p : List ℕ) → list_all is_word_byte (t ++ c ∷ p) ≡ false
   not_all [] p = rw breaks.no_word_byte
-  not_all (b ∷ t) p = and_false (is_word_byte b) _ (not_all t p)
+  not_all (b ∷ t) p = and_right (is_word_byte b) _ (not_all t p)
 
   no_word : (t p : List ℕ) → is_word (t ++ c ∷ p) ≡ false
   unfolding is_word
   no_word [] p = rw breaks.no_letter
-  no_word (b ∷ t) p = and_false (is_letter b) _ (not_all t p)
+  no_word (b ∷ t) p = and_right (is_letter b) _ (not_all t p)
 
   no_word_after_at : (t p : List ℕ) → is_word_after_at (t ++ c ∷ p) ≡ false
   unfolding is_word_after_at
   no_word_after_at [] p = rw breaks.no_at
-  no_word_after_at (b ∷ t) p = and_false (nat_eq b 64) _ (no_word t p)
+  no_word_after_at (b ∷ t) p = and_right (nat_eq b 64) _ (no_word t p)
 
   no_marked_word : (b : ℕ) (t p : List ℕ) → is_marked_word (b ∷ (t ++ c ∷ p)) ≡ false
   unfolding is_marked_word
-  no_marked_word b t p = rw (no_word_after_at (b ∷ t) p) (and_false (nat_eq b 96) _ (no_word_after_at t p))
+  no_marked_word b t p = rw (no_word_after_at (b ∷ t) p) (and_right (nat_eq b 96) _ (no_word_after_at t p))
 
   no_number_goes_on : (before : ℕ) (t p : List ℕ) → goes_on_number before (t ++ c ∷ p) ≡ false
   unfolding goes_on_number
   no_number_goes_on before [] p = rw (breaks.no_word_byte, breaks.no_point, breaks.no_sign)
-  no_number_goes_on before (b ∷ t) p = and_false (is_word_byte b || nat_eq b 46 || (is_sign b && is_exponent_mark before)) _ (no_number_goes_on b t p)
+  no_number_goes_on before (b ∷ t) p = and_right (is_word_byte b || nat_eq b 46 || (is_sign b && is_exponent_mark before)) _ (no_number_goes_on b t p)
 
   no_number : (b : ℕ) (t p : List ℕ) → is_number (b ∷ (t ++ c ∷ p)) ≡ false
   unfolding is_number
-  no_number b t p = and_false (is_digit b || (nat_eq b 46 && starts_with_digit (t ++ c ∷ p))) _ (no_number_goes_on b t p)
+  no_number b t p = and_right (is_digit b || (nat_eq b 46 && starts_with_digit (t ++ c ∷ p))) _ (no_number_goes_on b t p)
 
   no_space : (b : ℕ) (t p : List ℕ) → is_space (b ∷ (t ++ c ∷ p)) ≡ false
   unfolding is_space
@@ -132,7 +131,7 @@ module _ (c : ℕ) (breaks : Breaks c) where
   goes_on : (t p : List ℕ) → IsToken t → goes_on_with c (t ++ c ∷ p) ≡ true
   goes_on [] p h = absurd (empty_is_none (ap is_some h.spelled))
   goes_on (b ∷ []) p h = only_first _ _ (rw breaks.itself) (rw (at_is_none b (nat_eq b 64) h.sort refl h.spelled))
-  goes_on (b ∷ x ∷ t) p h = only_first _ _ (or_true (nat_eq x c) _ (has_it t p)) (and_false (nat_eq b 64) _ (and_false (nat_eq x 41) _ (longer_than_one t c p)))
+  goes_on (b ∷ x ∷ t) p h = only_first _ _ (or_right (nat_eq x c) _ (has_it t p)) (and_right (nat_eq b 64) _ (and_right (nat_eq x 41) _ (longer_than_one t c p)))
 
   no_stray : (b : ℕ) (t p : List ℕ) → stray_spelling (b ∷ (t ++ c ∷ p)) ≡ None
   unfolding stray_spelling

@@ -1,6 +1,6 @@
 -- Sameness of the forms that are read.
 use Rattle.std.proofs.Common.{◌≡◌, refl, ap, sym, subst, ◌∙◌, Bool, true, false, ◌&&◌, [], ◌∷◌, Some}
-use Rattle.std.proofs.lemmas.Bool.{eq-eqb}
+use Rattle.std.proofs.lemmas.Bool.{eq-eqb, and_from}
 use Rattle.c_tokens.specs.declared.span.Span.{Span}
 use Rattle.c_tokens.specs.declared.token.Word.{Word}
 use Rattle.syntax_trees.specs.declared.parts.BinaryOperator.{BinaryOperator}
@@ -30,9 +30,7 @@ use Rattle.same_trees.specs.Leaves.{same_word, same_binary}
 use Rattle.syntax_trees.specs.Views.{specs_view, init_declarator_view, decl_view}
 use Rattle.syntax_trees.specs.declared.parts.BasicType.TheVariants as basic
 use Rattle.syntax_trees.specs.declared.parts.IdPart.TheVariants as id
-use Rattle.syntax_trees.specs.declared.nodes.SpecsForm.{SpecsForm}
 use Rattle.syntax_trees.specs.declared.nodes.SpecForm.TheVariants as kSpec
-use Rattle.syntax_trees.specs.declared.nodes.InitDeclaratorForm.{InitDeclaratorForm}
 use Rattle.syntax_trees.specs.declared.nodes.DeclaratorForm.TheVariants as kDeclarator
 use Rattle.syntax_trees.specs.declared.nodes.InitForm.TheVariants as kInit
 use Rattle.syntax_trees.specs.declared.nodes.DeclForm.{DeclForm}
@@ -43,6 +41,7 @@ use Rattle.syntax_trees.specs.declared.plain.PlainInit.TheVariants as init
 use Rattle.syntax_trees.specs.declared.plain.PlainSpec.TheVariants as spec
 use Rattle.c_trees.specs.Items.{item_of}
 use Rattle.c_trees.specs.declared.first.Declaration.{Declaration}
+use Rattle.c_trees.proofs.ItemViews.{specs_form, declarator_form}
 use Rattle.same_trees.proofs.SameViews.{same_specs_view, same_spec_view, same_declarator_view, same_init_view, same_init_declarator_view, same_decl_view, same_item_view}
 use Rattle.same_trees.specs.Same.{same_item, same_specs, same_declarator, same_init_declarator, same_exp, meets_exp, same_at_argument, same_at_body, same_at_decl, same_at_declarator, same_at_exp, same_at_init, same_at_item, same_at_member, same_at_param, same_at_params, same_at_spec, same_at_stmt, same_at_tree, same_at_block, same_at_call, same_at_enumerator, same_at_init_declarator, same_at_member_declarator, same_at_specs, same_at_type_name}
 
@@ -83,21 +82,8 @@ same_operation operator a b c d span other = ap (λ f. f (e.Binary operator c d 
 
 -- ---- the items of two declarations
 
-abbrev specs_form : Declaration → SpecsForm
-specs_form t = record { specs = spec.Basic basic.Int t.specifier ∷ [] }
-
-abbrev declarator_form : Declaration → InitDeclaratorForm
-declarator_form t = record { declarator = declarator.Named (id.Word t.name t.at) t.at; init = Some (init.InitOne t.value t.given) }
-
-and_true : (b : Bool) → b ≡ true → (b && true) ≡ true
-and_true b e = ap (λ b. b && true) e
-
-both_true : (a b : Bool) → a ≡ true → b ≡ true → (a && b) ≡ true
-both_true true b e h = h
-both_true false b e h = e
-
 specs_same : (t u : Declaration) → same_specs (specs_view (specs_form t)) (specs_view (specs_form u)) ≡ true
-specs_same t u = same_specs_view (specs_form t) (specs_form u) ∙ and_true _ (same_spec_view (kSpec.Basic basic.Int t.specifier) (kSpec.Basic basic.Int u.specifier))
+specs_same t u = same_specs_view (specs_form t) (specs_form u) ∙ and_from _ _ (same_spec_view (kSpec.Basic basic.Int t.specifier) (kSpec.Basic basic.Int u.specifier)) refl
 
 named_same : (t u : Declaration) → t.name ≡ u.name → same_declarator (declarator.Named (id.Word t.name t.at) t.at) (declarator.Named (id.Word u.name u.at) u.at) ≡ true
 named_same t u e = same_declarator_view (kDeclarator.Named (id.Word t.name t.at) t.at) (kDeclarator.Named (id.Word u.name u.at) u.at)
@@ -106,7 +92,7 @@ named_same t u e = same_declarator_view (kDeclarator.Named (id.Word t.name t.at)
 declarator_same : (t u : Declaration) → t.name ≡ u.name → same_exp t.value u.value ≡ true
     → same_init_declarator (init_declarator_view (declarator_form t)) (init_declarator_view (declarator_form u)) ≡ true
 declarator_same t u e h = same_init_declarator_view (declarator_form t) (declarator_form u)
-    ∙ both_true _ _ (named_same t u e) (same_init_view (kInit.One t.value t.given) (kInit.One u.value u.given) ∙ h)
+    ∙ and_from _ _ (named_same t u e) (same_init_view (kInit.One t.value t.given) (kInit.One u.value u.given) ∙ h)
 
 -- they are the same, spans aside, where the names and the values are
 pub same_declared : (t u : Declaration) → t.name ≡ u.name → same_exp t.value u.value ≡ true → same_item (item_of t) (item_of u) ≡ true
@@ -114,4 +100,4 @@ same_declared t u e h =
     let of : Declaration → DeclForm = λ t. kDecl.Of (specs_view (specs_form t)) (init_declarator_view (declarator_form t) ∷ []) t.span in
     same_item_view (kItem.Declaration (decl_view (of t)) t.span) (kItem.Declaration (decl_view (of u)) u.span)
     ∙ same_decl_view (of t) (of u)
-    ∙ both_true _ _ (specs_same t u) (and_true _ (declarator_same t u e h))
+    ∙ and_from _ _ (specs_same t u) (and_from _ _ (declarator_same t u e h) refl)

@@ -1,6 +1,6 @@
 -- The tokens of a tree spell it, spans aside.
 use Rattle.std.proofs.Common.{◌≡◌, refl, subst, sym, ap, ◌∙◌, ℕ, zero, suc, ◌+◌, ◌≤◌, max, nat_lt, Bool, true, false, ◌&&◌, List, [], ◌∷◌, ◌++◌, Option, Some, None, inl, inr, arith}
-use Rattle.std.proofs.lemmas.Bool.{ltb-false}
+use Rattle.std.proofs.lemmas.Bool.{ltb-false, and_from}
 use Rattle.std.proofs.lemmas.Bool.Decides.{Decides-eqb}
 use Rattle.c_tokens.specs.declared.span.Span.{Span}
 use Rattle.c_tokens.specs.declared.token.Word.{Word}
@@ -19,7 +19,6 @@ use Rattle.same_trees.specs.Leaves.{same_binary}
 use Rattle.same_trees.specs.Same.{same_exp}
 use Rattle.c_printer.proofs.SameForms.{same_name, same_int, same_operation}
 use Rattle.c_trees.specs.Built.{Built, a_name, a_constant, an_operation, a_hole, a_call, is_read}
-use Rattle.c_trees.proofs.Bools.{both}
 use Rattle.c_grammar.specs.declared.context.Context.{Context}
 use Rattle.c_grammar.specs.declared.context.Context.TheVariants.{InItem}
 use Rattle.c_grammar.specs.Reader.{span_at}
@@ -117,7 +116,7 @@ module _ (w : List Token) where
         record {
           read = e.Binary operator A.read B.read (span_from w i j);
           same = same_operation operator a b A.read B.read span (span_from w i j)
-              ∙ both _ _ (both _ _ (same_operator operator taken) A.same) B.same;
+              ∙ and_from _ _ (and_from _ _ (same_operator operator taken) A.same) B.same;
           spells = inl (subst (λ l. Node (Unit {0}) (Spells d w) w here place l i j) (sym (outs-Binary operator A.read B.read (span_from w i j))) (taken, (fits, (joins, refl))));
         }
 

@@ -1,7 +1,7 @@
 -- Shapes whose texts are whole spellings.
 use Rattle.std.proofs.Common.{◌≡◌, refl, ap, sym, ℕ, ◌<◌, unwrap_or, cond, Bool, true, false, bytes_eq, position, List, [], ◌∷◌, ◌++◌, length, get_or, Option, Some, None, arith}
 use Rattle.std.specs.List.{IsDistinct, position_or_len}
-use Rattle.std.proofs.lemmas.Bool.{ltb-true, lt-ltb}
+use Rattle.std.proofs.lemmas.Bool.{ltb-true, lt-ltb, and_parts}
 use Rattle.std.proofs.lemmas.Map.Keys.{apart_from_distinct}
 use Rattle.std.proofs.lemmas.List.Sums.{position_or_len_is}
 use Rattle.std.proofs.lemmas.Slice.Eq.{bytes_eq-Decides}
@@ -24,7 +24,6 @@ use Rattle.c_tokens.specs.Tokens.{shape_of, number_in}
 use Rattle.c_trees.specs.Named.{is_word_spelling, is_integer_spelling, names_word, names_integer}
 use Rattle.c_grammar.specs.Words.{text_of}
 use Rattle.c_printer.specs.Texts.{text_of_key, text_of_punct, text_of_shape}
-use Rattle.c_printer.proofs.Bools.{and_first, and_second}
 
 -- the text of a shape is a spelling, which stands for the shape
 pub record IsWritten (names : List (List ℕ)) (x : Shape) : Type 0 where
@@ -89,20 +88,20 @@ is_integer_token _ h = absurd (cc)
 
 pub word_written : (names : List (List ℕ)) (n : Word) → IsDistinct bytes_eq names → names_word names n ≡ true → IsWritten names (s.Word n)
 word_written names n distinct h =
-    let within : n.0 < length names = ltb-true n.0 (length names) (and_first _ _ h) in
+    let within : n.0 < length names = ltb-true n.0 (length names) (and_parts _ _ h).0 in
     record {
       sort = word;
       plain = tt;
-      spelled = is_word_token (spelling_of C90 (text_of names n)) (and_second _ _ h);
+      spelled = is_word_token (spelling_of C90 (text_of names n)) (and_parts _ _ h).1;
       same = ap (λ m. s.Word (record { 0 = m })) (number_is names n.0 distinct within);
     }
 
 pub integer_written : (names : List (List ℕ)) (n : Word) → IsDistinct bytes_eq names → names_integer names n ≡ true → IsWritten names (s.Int n)
 integer_written names n distinct h =
-    let within : n.0 < length names = ltb-true n.0 (length names) (and_first _ _ h) in
+    let within : n.0 < length names = ltb-true n.0 (length names) (and_parts _ _ h).0 in
     record {
       sort = integer;
       plain = tt;
-      spelled = is_integer_token (spelling_of C90 (text_of names n)) (and_second _ _ h);
+      spelled = is_integer_token (spelling_of C90 (text_of names n)) (and_parts _ _ h).1;
       same = ap (λ m. s.Int (record { 0 = m })) (number_is names n.0 distinct within);
     }

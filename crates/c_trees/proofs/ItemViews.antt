@@ -1,10 +1,13 @@
 -- The item of a declaration.
-use Rattle.std.proofs.Common.{◌≡◌, refl, ap, ◌∙◌, ℕ, Bool, true, false, ◌&&◌, List, [], ◌∷◌, Option, Some}
+use Rattle.std.proofs.Common.{◌≡◌, ap, ◌∙◌, ℕ, Bool, false, List, [], ◌∷◌, Option, Some}
+use Rattle.std.proofs.Math.Bool.{and-true}
 use Rattle.syntax_trees.specs.Measures.{Measure, node, nothing, both, together, measure_item, measure_decl, measure_specs, measure_init_declarator, measure_init, measure_exp, is_pure_item, is_pure_exp}
 use Rattle.syntax_trees.specs.Standings.{is_listed_exp}
-use Rattle.syntax_trees.specs.Views.{specs_of, init_declarator_of}
+use Rattle.syntax_trees.specs.Views.{specs_view, init_declarator_view}
 use Rattle.syntax_trees.specs.declared.parts.BasicType.TheVariants as basic
 use Rattle.syntax_trees.specs.declared.parts.IdPart.TheVariants as id
+use Rattle.syntax_trees.specs.declared.nodes.InitDeclaratorForm.{InitDeclaratorForm}
+use Rattle.syntax_trees.specs.declared.nodes.SpecsForm.{SpecsForm}
 use Rattle.syntax_trees.specs.declared.plain.PlainInitDeclarator.{PlainInitDeclarator}
 use Rattle.syntax_trees.specs.declared.plain.PlainSpecs.{PlainSpecs}
 use Rattle.syntax_trees.specs.declared.plain.PlainDecl.TheVariants as decl
@@ -28,11 +31,18 @@ pub ruleset declared_forms = (
   standings.standing-DeclOf,
 )
 
-abbrev specs_in : Declaration → PlainSpecs
-specs_in t = specs_of (spec.Basic basic.Int t.specifier ∷ [])
+-- its specifiers, and its declarator with the initializer
+abbrev pub specs_form : Declaration → SpecsForm
+specs_form t = record { specs = spec.Basic basic.Int t.specifier ∷ [] }
 
-abbrev declarator_in : Declaration → PlainInitDeclarator
-declarator_in t = init_declarator_of (declarator.Named (id.Word t.name t.at) t.at) (Some (init.InitOne t.value t.given))
+abbrev pub declarator_form : Declaration → InitDeclaratorForm
+declarator_form t = record { declarator = declarator.Named (id.Word t.name t.at) t.at; init = Some (init.InitOne t.value t.given) }
+
+abbrev pub specs_in : Declaration → PlainSpecs
+specs_in t = specs_view (specs_form t)
+
+abbrev pub declarator_in : Declaration → PlainInitDeclarator
+declarator_in t = init_declarator_view (declarator_form t)
 
 specs_measured : (t : Declaration) → measure_specs (specs_in t) ≡ both (node nothing) nothing
 specs_measured t = measures.measure-specs_of (spec.Basic basic.Int t.specifier ∷ []) ∙ ap (λ m. both m nothing) (measures.measure-Basic basic.Int t.specifier)
@@ -55,10 +65,6 @@ built_single t (an_operation operator a b span k A B q) = ap is_listed_exp q ∙
 built_single t (a_hole span k q) = ap is_listed_exp q ∙ single_first_hole span
 built_single t (a_call a at span k A q) = ap is_listed_exp q ∙ single_first_call a at span
 
-and_true : (b : Bool) → (b && true) ≡ b
-and_true true = refl
-and_true false = refl
-
 -- it is pure where its value is
 pub item_is_pure : (t : Declaration) → is_pure_item (item_of t) ≡ is_pure_exp t.value
-item_is_pure t = ap (λ m. m.pure) (item_measured t) ∙ and_true (is_pure_exp t.value)
+item_is_pure t = ap (λ m. m.pure) (item_measured t) ∙ and-true (is_pure_exp t.value)

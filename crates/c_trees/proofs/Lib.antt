@@ -1,3 +1,2 @@
-pub mod Bools
 pub mod CallViews
 pub mod ItemViews

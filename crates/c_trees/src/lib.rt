@@ -1,4 +1,4 @@
-//! The syntax trees, with what the first macros are made of.
+//! The syntax trees of C and of meta code, with what the first macros are made of.
 #![tactic(auto)]
 
 mod calls;
@@ -6,6 +6,12 @@ mod first;
 
 pub use calls::{argument_in, first_call};
 pub use first::{Declaration, First, FirstItem};
+pub use meta_trees::{
+    Assignment, AssignmentForm, Binder, FileItem, HoleCode, HoleCodeForm, Local, LocalForm,
+    MetaBlock, MetaBlockForm, MetaDef, MetaDefForm, MetaExp, MetaExpForm, MetaParam, MetaStmt,
+    MetaStmtForm, MetaUnaryOperator, SyntaxDef, SyntaxDefForm, Template, TemplateForm,
+};
+pub use same_meta_trees::SameCode;
 pub use same_trees::Same;
 pub use shared_nodes::Shared;
 pub use syntax_trees::{

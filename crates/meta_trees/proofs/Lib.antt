@@ -6,3 +6,4 @@ pub mod PartTests
 pub mod Patterns
 pub mod ShapeViews
 pub mod SingleForms
+pub mod Worked

@@ -1,5 +1,6 @@
 -- What filling and expanding keep.
 use Rattle.std.proofs.Common.{◌≡◌, refl, subst, ap, sym, ◌∙◌, ℕ, Bool, true, false, ◌&&◌, List, Option, Some, None}
+use Rattle.std.proofs.lemmas.Bool.{and_from}
 use Rattle.c_tokens.specs.declared.span.Span.{Span}
 use Rattle.syntax_trees.specs.Measures.{is_pure_exp}
 use Rattle.syntax_trees.proofs.MeasureViews.{pure_exp_view}
@@ -9,7 +10,6 @@ use Rattle.syntax_trees.specs.declared.plain.PlainExp.{PlainExp}
 use Rattle.syntax_trees.specs.declared.plain.PlainExp.TheVariants as e
 use Rattle.c_trees.specs.Built.{Built, a_name, a_constant, an_operation, a_hole, a_call, is_read}
 use Rattle.c_trees.specs.Calls.{first_call, first_call_of, first_place, argument_in_call}
-use Rattle.c_trees.proofs.Bools.{both}
 use Rattle.c_trees.proofs.CallViews.{argument_in_first_call}
 use Rattle.templates.specs.Filling.{filled, expanded}
 use Rattle.templates.specs.Forms.{forms_of, is_plain, is_template, is_value}
@@ -22,7 +22,7 @@ pub plain_built : (names : Option (List (List ℕ))) (t : PlainExp) → Built na
 plain_built names t (a_name n span k q) = ap is_plain q ∙ ap (λ f. f.plain) (forms_view (kExp.Name n span))
 plain_built names t (a_constant n span k q) = ap is_plain q ∙ ap (λ f. f.plain) (forms_view (kExp.Int n span))
 plain_built names t (an_operation operator a b span k A B q) = ap is_plain q ∙ ap (λ f. f.plain) (forms_view (kExp.Binary operator a b span))
-    ∙ both _ _ k (both _ _ (plain_built names a A) (plain_built names b B))
+    ∙ and_from _ _ k (and_from _ _ (plain_built names a A) (plain_built names b B))
 plain_built names t (a_hole span k q) = absurd (cc k)
 plain_built names t (a_call a at span k A q) = absurd (cc k)
 
@@ -30,7 +30,7 @@ pub template_built : (names : Option (List (List ℕ))) (t : PlainExp) → Built
 template_built names t (a_name n span k q) = ap is_template q ∙ ap (λ f. f.template) (forms_view (kExp.Name n span))
 template_built names t (a_constant n span k q) = ap is_template q ∙ ap (λ f. f.template) (forms_view (kExp.Int n span))
 template_built names t (an_operation operator a b span k A B q) = ap is_template q ∙ ap (λ f. f.template) (forms_view (kExp.Binary operator a b span))
-    ∙ both _ _ k (both _ _ (template_built names a A) (template_built names b B))
+    ∙ and_from _ _ k (and_from _ _ (template_built names a A) (template_built names b B))
 template_built names t (a_hole span k q) = ap is_template q ∙ ap (λ f. f.template) (forms_view (kExp.Hole (first_place span)))
 template_built names t (a_call a at span k A q) = absurd (cc k)
 
@@ -38,18 +38,18 @@ pub value_built : (names : Option (List (List ℕ))) (calls : Bool) (t : PlainEx
 value_built names calls t (a_name n span k q) = ap is_value q ∙ ap (λ f. f.value) (forms_view (kExp.Name n span))
 value_built names calls t (a_constant n span k q) = ap is_value q ∙ ap (λ f. f.value) (forms_view (kExp.Int n span))
 value_built names calls t (an_operation operator a b span k A B q) = ap is_value q ∙ ap (λ f. f.value) (forms_view (kExp.Binary operator a b span))
-    ∙ both _ _ k (both _ _ (value_built names calls a A) (value_built names calls b B))
+    ∙ and_from _ _ k (and_from _ _ (value_built names calls a A) (value_built names calls b B))
 value_built names calls t (a_hole span k q) = absurd (cc k)
 value_built names calls t (a_call a at span k A q) = ap is_value q ∙ ap (λ f. f.value) (forms_view (kExp.Call (first_call_of a at span)))
     ∙ ap (λ f. f.plain && f.value) (forms_of_argument_in (first_call_of a at span) ∙ ap forms_in (argument_in_first_call a at span))
-    ∙ both _ _ (plain_built names a A) (value_built names false a A)
+    ∙ and_from _ _ (plain_built names a A) (value_built names false a A)
 
 -- such an expression without placeholders and calls is C alone
 pub pure_built : (names : Option (List (List ℕ))) (t : PlainExp) → Built names false false t → is_pure_exp t ≡ true
 pure_built names t (a_name n span k q) = ap is_pure_exp q ∙ pure_exp_view (kExp.Name n span)
 pure_built names t (a_constant n span k q) = ap is_pure_exp q ∙ pure_exp_view (kExp.Int n span)
 pure_built names t (an_operation operator a b span k A B q) = ap is_pure_exp q ∙ pure_exp_view (kExp.Binary operator a b span)
-    ∙ both _ _ (pure_built names a A) (pure_built names b B)
+    ∙ and_from _ _ (pure_built names a A) (pure_built names b B)
 pure_built names t (a_hole span k q) = absurd (cc k)
 pure_built names t (a_call a at span k A q) = absurd (cc k)
 

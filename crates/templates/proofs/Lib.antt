@@ -1,3 +1,4 @@
 pub mod FormViews
 pub mod Filled
 pub mod Kept
+pub mod Worked
