@@ -91,7 +91,7 @@ module _ (name : Word) (at : Span) where
   conditional = refl
 
   -- `( $t ) $x`
-  cast : are_binders 0 (binder kind.Spec ∷ binder kind.Exp ∷ []) (stand_ins_at_exp (PlainExp-F.Cast (stand_ins_at_type_name (record { specs = stands kind.Spec 0; declarator = [] })) (stands kind.Exp 1) at)) ≡ true
+  cast : are_binders 0 (binder kind.Spec ∷ binder kind.Exp ∷ []) (stand_ins_at_exp (PlainExp-F.Cast (stand_ins_at_type_name (record { specs = stands kind.Spec 0; declarator = []; span = at })) (stands kind.Exp 1) at)) ≡ true
   cast = refl
 
   -- `$l : $s`
