@@ -1,13 +1,13 @@
 -- One level of a tree, from the form of its node.
-use Rattle.std.proofs.Common.{◌≡◌, ap, ◌∙◌, ℕ, ◌+◌, max, false, List, [], ◌∷◌, Option, Some, arith}
+use Rattle.std.proofs.Common.{◌≡◌, ap, ◌∙◌, ◌+◌, max, false, [], ◌∷◌, Some, arith}
 use Rattle.c_tokens.specs.declared.span.Span.{Span}
 use Rattle.syntax_trees.specs.Levels.{ExpParts}
-use Rattle.syntax_trees.specs.Measures.{Measure, measure_exp, height_of_exp, extension, both, nothing}
+use Rattle.syntax_trees.specs.Measures.{measure_exp, height_of_exp, extension, both, nothing}
 use Rattle.syntax_trees.specs.Standings.{is_listed_exp}
 use Rattle.syntax_trees.specs.declared.plain.PlainExp.{PlainExp}
 use Rattle.syntax_trees.specs.Views.{call_view, exp_view, argument_view, body_view, tree_view}
 use Rattle.syntax_trees.specs.declared.nodes.CallForm.{CallForm}
-use Rattle.syntax_trees.specs.declared.plain.PlainCall.{out-PlainCall, out-roll-PlainCall}
+use Rattle.syntax_trees.specs.declared.plain.PlainCall.{out-roll-PlainCall}
 use Rattle.syntax_trees.specs.declared.nodes.ExpForm.{ExpForm}
 use Rattle.syntax_trees.specs.declared.nodes.ExpForm.TheVariants as kExp
 use Rattle.syntax_trees.specs.declared.plain.PlainExp.{PlainExp-F, out-PlainExp}

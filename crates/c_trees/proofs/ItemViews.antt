@@ -1,7 +1,7 @@
 -- The item of a declaration.
 use Rattle.std.proofs.Common.{◌≡◌, ap, ◌∙◌, ℕ, Bool, false, List, [], ◌∷◌, Option, Some}
 use Rattle.std.proofs.Math.Bool.{and-true}
-use Rattle.syntax_trees.specs.Measures.{Measure, node, nothing, both, together, measure_item, measure_decl, measure_specs, measure_init_declarator, measure_init, measure_exp, is_pure_item, is_pure_exp}
+use Rattle.syntax_trees.specs.Measures.{node, nothing, both, measure_item, measure_specs, measure_init_declarator, measure_init, measure_exp, is_pure_item, is_pure_exp}
 use Rattle.syntax_trees.specs.Standings.{is_listed_exp}
 use Rattle.syntax_trees.specs.Views.{specs_view, init_declarator_view}
 use Rattle.syntax_trees.specs.declared.parts.BasicType.TheVariants as basic

@@ -1,9 +1,8 @@
 -- Placeholders and calls of the macro that is defined, which has one argument, an expression.
-use Rattle.std.specs.Prelude.{ℕ, ◌<◌, ◌≤◌, Bool, true, false, List, [], ◌∷◌, Option, Some, None}
+use Rattle.std.specs.Prelude.{ℕ, ◌<◌, ◌≤◌, false, List, [], ◌∷◌, Option, Some, None}
 use denote.Ref.{Bor}
 use Rattle.c_tokens.specs.declared.kind.Kind.TheVariants as kind
 use Rattle.c_tokens.specs.declared.kind.Base.TheVariants as base
-use Rattle.c_tokens.specs.declared.kind.MacroNo.{MacroNo}
 use Rattle.c_tokens.specs.declared.kind.MetaType.{MetaType}
 use Rattle.c_tokens.specs.declared.span.Span.{Span}
 use Rattle.syntax_trees.specs.declared.parts.Hole.{Hole}

@@ -1,5 +1,5 @@
 -- What filling and expanding do to a form.
-use Rattle.std.proofs.Common.{◌≡◌, refl, ap, sym, ◌∙◌, List, [], ◌∷◌, map, Option, Some, None}
+use Rattle.std.proofs.Common.{◌≡◌, refl, ap, sym, ◌∙◌, List, [], ◌∷◌, map, Option, Some}
 use Rattle.c_tokens.specs.declared.span.Span.{Span}
 use Rattle.c_tokens.specs.declared.token.Word.{Word}
 use Rattle.syntax_trees.specs.Options.{over}
@@ -11,7 +11,7 @@ use Rattle.syntax_trees.specs.declared.plain.PlainArgument.{PlainArgument, roll-
 use Rattle.syntax_trees.specs.declared.plain.PlainBody.{PlainBody, roll-PlainBody, PlainBody-F, fold-PlainBody, fold-roll-PlainBody, out-PlainBody, out-roll-PlainBody, roll-out-PlainBody}
 use Rattle.syntax_trees.specs.declared.plain.PlainDecl.{PlainDecl, roll-PlainDecl}
 use Rattle.syntax_trees.specs.declared.plain.PlainDeclarator.{PlainDeclarator, roll-PlainDeclarator}
-use Rattle.syntax_trees.specs.declared.plain.PlainExp.{PlainExp, roll-PlainExp, PlainExp-F, fold-roll-PlainExp}
+use Rattle.syntax_trees.specs.declared.plain.PlainExp.{PlainExp, PlainExp-F, fold-roll-PlainExp}
 use Rattle.syntax_trees.specs.declared.plain.PlainInit.{PlainInit, roll-PlainInit}
 use Rattle.syntax_trees.specs.declared.plain.PlainItem.{PlainItem, roll-PlainItem}
 use Rattle.syntax_trees.specs.declared.plain.PlainMember.{PlainMember, roll-PlainMember}

@@ -1,13 +1,13 @@
 -- The forms of an expression, one level at a time.
-use Rattle.std.proofs.Common.{◌≡◌, refl, ap, sym, ◌∙◌, Bool, true, false, List, [], ◌∷◌, map, Option, Some, None}
+use Rattle.std.proofs.Common.{◌≡◌, refl, ap, sym, ◌∙◌, List, [], ◌∷◌, map, Option, Some, None}
 use Rattle.syntax_trees.specs.Views.{exp_view}
 use Rattle.syntax_trees.specs.declared.nodes.ExpForm.{ExpForm}
 use Rattle.syntax_trees.specs.declared.nodes.ExpForm.TheVariants as kExp
 use Rattle.syntax_trees.specs.declared.plain.PlainArgument.{PlainArgument, PlainArgument-F, out-PlainArgument, roll-PlainArgument, roll-out-PlainArgument, fold-roll-PlainArgument}
-use Rattle.syntax_trees.specs.declared.plain.PlainBody.{PlainBody, PlainBody-F, out-PlainBody, roll-PlainBody, roll-out-PlainBody, fold-roll-PlainBody}
-use Rattle.syntax_trees.specs.declared.plain.PlainCall.{PlainCall, out-PlainCall, roll-PlainCall, roll-out-PlainCall, fold-roll-PlainCall}
+use Rattle.syntax_trees.specs.declared.plain.PlainBody.{PlainBody-F, out-PlainBody, roll-PlainBody, roll-out-PlainBody, fold-roll-PlainBody}
+use Rattle.syntax_trees.specs.declared.plain.PlainCall.{PlainCall, out-PlainCall, roll-out-PlainCall, fold-roll-PlainCall}
 use Rattle.syntax_trees.specs.declared.plain.PlainExp.{PlainExp, PlainExp-F, fold-roll-PlainExp}
-use Rattle.syntax_trees.specs.declared.plain.PlainTree.{PlainTree, PlainTree-F, out-PlainTree, roll-PlainTree, roll-out-PlainTree, fold-roll-PlainTree}
+use Rattle.syntax_trees.specs.declared.plain.PlainTree.{PlainTree-F, out-PlainTree, roll-PlainTree, roll-out-PlainTree, fold-roll-PlainTree}
 use Rattle.syntax_trees.specs.declared.plain.PlainArgument.TheViews.{rolls-Name, rolls-Int, rolls-Float, rolls-Char, rolls-Str, rolls-Index, rolls-Apply, rolls-Field, rolls-Arrow, rolls-PostInc, rolls-PostDec, rolls-PreInc, rolls-PreDec, rolls-Unary, rolls-SizeofExp, rolls-SizeofType, rolls-Cast, rolls-Binary, rolls-Conditional, rolls-Assign, rolls-Comma, rolls-ExpHole, rolls-ExpCall}
 use Rattle.syntax_trees.proofs.MeasureViews as measures
 use Rattle.syntax_trees.proofs.StandingViews as standings

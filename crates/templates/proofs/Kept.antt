@@ -1,18 +1,15 @@
 -- What filling and expanding keep.
-use Rattle.std.proofs.Common.{◌≡◌, refl, subst, ap, sym, ◌∙◌, ℕ, Bool, true, false, ◌&&◌, List, Option, Some, None}
+use Rattle.std.proofs.Common.{◌≡◌, refl, subst, ap, sym, ◌∙◌, ℕ, Bool, true, false, ◌&&◌, List, Option, None}
 use Rattle.std.proofs.lemmas.Bool.{and_from}
-use Rattle.c_tokens.specs.declared.span.Span.{Span}
 use Rattle.syntax_trees.specs.Measures.{is_pure_exp}
 use Rattle.syntax_trees.proofs.MeasureViews.{pure_exp_view}
 use Rattle.syntax_trees.specs.declared.nodes.ExpForm.TheVariants as kExp
-use Rattle.syntax_trees.specs.declared.parts.BinaryOperator.{BinaryOperator}
 use Rattle.syntax_trees.specs.declared.plain.PlainExp.{PlainExp}
-use Rattle.syntax_trees.specs.declared.plain.PlainExp.TheVariants as e
-use Rattle.c_trees.specs.Built.{Built, a_name, a_constant, an_operation, a_hole, a_call, is_read}
-use Rattle.c_trees.specs.Calls.{first_call, first_call_of, first_place, argument_in_call}
+use Rattle.c_trees.specs.Built.{Built, a_name, a_constant, an_operation, a_hole, a_call}
+use Rattle.c_trees.specs.Calls.{first_call_of, first_place}
 use Rattle.c_trees.proofs.CallViews.{argument_in_first_call}
 use Rattle.templates.specs.Filling.{filled, expanded}
-use Rattle.templates.specs.Forms.{forms_of, is_plain, is_template, is_value}
+use Rattle.templates.specs.Forms.{is_plain, is_template, is_value}
 use Rattle.templates.proofs.Filled.{filled_name, filled_int, filled_binary, filled_hole, expanded_name, expanded_int, expanded_binary, expanded_call_of}
 use Rattle.templates.proofs.FormViews.{forms_view, forms_in, forms_of_argument_in}
 

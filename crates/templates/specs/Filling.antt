@@ -2,8 +2,8 @@
 use Rattle.std.specs.Prelude.{Option, Some, None}
 use Rattle.syntax_trees.specs.Levels.{ExpParts}
 use Rattle.syntax_trees.specs.declared.plain.PlainExp.{PlainExp-F}
-use Rattle.syntax_trees.specs.declared.plain.PlainArgument.{PlainArgument, roll-PlainArgument, fold-PlainArgument}
-use Rattle.syntax_trees.specs.declared.plain.PlainBody.{PlainBody, roll-PlainBody, fold-PlainBody}
+use Rattle.syntax_trees.specs.declared.plain.PlainArgument.{PlainArgument, roll-PlainArgument}
+use Rattle.syntax_trees.specs.declared.plain.PlainBody.{PlainBody, roll-PlainBody}
 use Rattle.syntax_trees.specs.declared.plain.PlainDecl.{PlainDecl, roll-PlainDecl}
 use Rattle.syntax_trees.specs.declared.plain.PlainDeclarator.{PlainDeclarator, roll-PlainDeclarator}
 use Rattle.syntax_trees.specs.declared.plain.PlainExp.{PlainExp, roll-PlainExp, fold-PlainExp}
@@ -14,9 +14,9 @@ use Rattle.syntax_trees.specs.declared.plain.PlainParam.{PlainParam, roll-PlainP
 use Rattle.syntax_trees.specs.declared.plain.PlainParams.{PlainParams, roll-PlainParams}
 use Rattle.syntax_trees.specs.declared.plain.PlainSpec.{PlainSpec, roll-PlainSpec}
 use Rattle.syntax_trees.specs.declared.plain.PlainStmt.{PlainStmt, roll-PlainStmt}
-use Rattle.syntax_trees.specs.declared.plain.PlainTree.{PlainTree, roll-PlainTree, fold-PlainTree}
+use Rattle.syntax_trees.specs.declared.plain.PlainTree.{PlainTree, roll-PlainTree}
 use Rattle.syntax_trees.specs.declared.plain.PlainBlock.{PlainBlock, roll-PlainBlock}
-use Rattle.syntax_trees.specs.declared.plain.PlainCall.{PlainCall, roll-PlainCall, fold-PlainCall}
+use Rattle.syntax_trees.specs.declared.plain.PlainCall.{PlainCall, roll-PlainCall}
 use Rattle.syntax_trees.specs.declared.plain.PlainEnumerator.{PlainEnumerator, roll-PlainEnumerator}
 use Rattle.syntax_trees.specs.declared.plain.PlainInitDeclarator.{PlainInitDeclarator, roll-PlainInitDeclarator}
 use Rattle.syntax_trees.specs.declared.plain.PlainMemberDeclarator.{PlainMemberDeclarator, roll-PlainMemberDeclarator}
