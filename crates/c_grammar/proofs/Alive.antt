@@ -19,7 +19,7 @@ use Rattle.c_trees.specs.declared.first.FirstItem.TheVariants as item
 use Rattle.c_grammar.specs.declared.context.Context.{Context}
 use Rattle.c_grammar.specs.declared.context.Context.TheVariants.{InItem, InArgument, InTemplate}
 use Rattle.c_grammar.specs.Words.{is_identifier, callee, binder, is_exp}
-use Rattle.c_grammar.specs.Reader.{Input, Reader, More, Last, Rule, Expression, MetaBlock, Found, Give, Look, Where, Next, Pick, Bind, Fits, Call, pick, choose, token, next, before, through, shape_at, span_at, ◌>>=◌, ◌>>◌}
+use Rattle.c_grammar.specs.Reader.{Input, Reader, More, Last, Rule, Expression, MetaBlock, Found, Give, Look, Where, Next, Pick, Bind, Fits, Call, pick, choose, token, next, through, shape_at, span_at, ◌>>=◌, ◌>>◌}
 use Rattle.c_grammar.specs.Grammar.{read, below, body, binds, joined, is_opening, is_closing, is_equal, is_semicolon, is_colon, is_right_brace, is_return, is_result, is_pattern_open, is_pattern_close, is_bind, word_of, identifier_of, is_kind, is_named, parenthesized, called, closed, itself, call_from, placed, reserved, placeholder, primary_by, primary, longer, climb, expression, quoted, quote_by, quote, meta_block, block_by, block, bound, pattern, definition, declared as item_declared, valued, declaration, defined, item_by, an_item, chosen}
 use Rattle.c_grammar.specs.Laws.{IsKnown}
 use Rattle.c_grammar.proofs.Sets.{Tokens, anything}

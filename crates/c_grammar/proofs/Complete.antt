@@ -22,8 +22,8 @@ use Rattle.c_grammar.specs.declared.context.Context.{Context}
 use Rattle.c_grammar.specs.declared.context.Context.TheVariants.{InItem, InArgument, InTemplate}
 use Rattle.c_grammar.specs.Words.{is_identifier, callee}
 use Rattle.c_grammar.specs.Reader.{Input, Expression, Found, and_then, next, before, through, shape_at, span_at}
-use Rattle.c_grammar.specs.Grammar.{expression, primary, parenthesized, called, closed, itself, call_from, placed, climb, longer, binds, joined, read, below}
-use Rattle.c_grammar.specs.Spells.{Spells, Node, Joins, Wraps, Places, Calls, sign_of, span_from}
+use Rattle.c_grammar.specs.Grammar.{expression, primary, parenthesized, called, closed, placed, climb, longer, binds, joined, read, below}
+use Rattle.c_grammar.specs.Spells.{Spells, Node, Joins, Wraps, Places, sign_of, span_from}
 use Rattle.c_grammar.proofs.Chain.{no_turn, one_turn, one_level}
 use Rattle.c_grammar.proofs.Local.{from}
 

@@ -1,5 +1,5 @@
 -- A reading stands when a macro is defined whose name is none of its tokens.
-use Rattle.std.proofs.Common.{◌≡◌, inl, inr, refl, ap, sym, ◌∙◌, ℕ, zero, suc, ◌+◌, ◌<◌, ◌≤◌, Bool, true, false, List, Some, None, arith}
+use Rattle.std.proofs.Common.{◌≡◌, inl, inr, refl, ap, ◌∙◌, ℕ, zero, suc, ◌+◌, ◌<◌, ◌≤◌, Bool, true, false, List, Some, None, arith}
 use Rattle.std.specs.Prelude.{◌==◌, not}
 use Rattle.std.proofs.lemmas.Bool.{eqb-true}
 use Rattle.c_tokens.specs.declared.token.Word.{Word}
@@ -9,9 +9,8 @@ use Rattle.syntax_trees.specs.Levels.{ExpParts, level_with}
 use Rattle.syntax_trees.specs.declared.plain.PlainExp.{PlainExp, PlainExp-F, out-PlainExp}
 use Rattle.c_trees.specs.declared.first.Declaration.{Declaration}
 use Rattle.c_grammar.specs.declared.context.Context.TheVariants.{InItem}
-use Rattle.c_grammar.specs.Words.{is_identifier}
 use Rattle.c_grammar.specs.Reader.{shape_at}
-use Rattle.c_grammar.specs.Spells.{Spelling, Spells, Node, Wraps, SpellsDeclaration}
+use Rattle.c_grammar.specs.Spells.{Spelling, Spells, Node, SpellsDeclaration}
 use Rattle.c_grammar.proofs.Heights.{low}
 use Rattle.c_grammar.proofs.Raise.{nothing}
 use Rattle.c_grammar.proofs.Sound.{same_word}

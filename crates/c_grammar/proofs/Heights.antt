@@ -1,13 +1,13 @@
 -- An expression is lower than the number of its tokens.
-use Rattle.std.proofs.Common.{◌≡◌, inl, inr, refl, subst, ap, sym, ◌∙◌, ℕ, zero, suc, ◌+◌, ◌<◌, ◌≤◌, max, List, Option, arith}
+use Rattle.std.proofs.Common.{◌≡◌, inl, inr, ap, ◌∙◌, ℕ, zero, suc, ◌+◌, ◌<◌, max, List, Option, arith}
 use Rattle.c_tokens.specs.declared.token.Word.{Word}
 use Rattle.c_tokens.specs.declared.token.Token.{Token}
 use Rattle.syntax_trees.specs.Levels.{ExpParts}
-use Rattle.syntax_trees.specs.Measures.{measure_exp, height_of_exp}
+use Rattle.syntax_trees.specs.Measures.{height_of_exp}
 use Rattle.syntax_trees.specs.declared.plain.PlainExp.{PlainExp, PlainExp-F, out-PlainExp, roll-PlainExp, roll-out-PlainExp}
 use Rattle.syntax_trees.specs.declared.plain.PlainExp.TheVariants as e
 use Rattle.syntax_trees.specs.declared.plain.PlainArgument.TheViews.{rolls-Name, rolls-Int, rolls-Binary, rolls-ExpHole, rolls-ExpCall}
-use Rattle.syntax_trees.proofs.MeasureViews.{measure-Name, measure-Int, measure-Binary, measure-ExpHole, measure-ExpCall}
+use Rattle.syntax_trees.proofs.MeasureViews.{measure-Name, measure-Int, measure-Binary, measure-ExpHole}
 use Rattle.c_trees.proofs.CallViews.{height_first_call}
 use Rattle.c_trees.specs.declared.first.Declaration.{Declaration}
 use Rattle.c_trees.specs.declared.first.First.{First}

@@ -1,5 +1,5 @@
 -- An expression that is spelled has the forms that are read, and its words are words of the tokens.
-use Rattle.std.proofs.Common.{◌≡◌, inl, inr, refl, subst, ap, sym, ◌∙◌, ℕ, zero, suc, ◌+◌, Bool, true, false, List, Option, Some, None}
+use Rattle.std.proofs.Common.{◌≡◌, inl, inr, refl, subst, ap, ◌∙◌, ℕ, zero, suc, ◌+◌, true, false, List, Option, Some, None}
 use Rattle.c_tokens.specs.declared.token.Word.{Word}
 use Rattle.c_tokens.specs.declared.token.Shape.TheVariants as s
 use Rattle.c_tokens.specs.declared.token.Token.{Token}
@@ -16,7 +16,7 @@ use Rattle.c_trees.specs.declared.first.First.{First}
 use Rattle.c_grammar.specs.declared.context.Context.{Context}
 use Rattle.c_grammar.specs.declared.context.Context.TheVariants.{InItem, InArgument, InTemplate}
 use Rattle.c_grammar.specs.Words.{callee, binder, has_holes, has_calls}
-use Rattle.c_grammar.specs.Reader.{shape_at, span_at}
+use Rattle.c_grammar.specs.Reader.{shape_at}
 use Rattle.c_grammar.specs.Spells.{Spells, Spelling, Node, SpellsDeclaration, SpellsDefinition, span_from}
 use Rattle.c_grammar.specs.Laws.{IsKnown, AreKnown}
 use Rattle.c_grammar.proofs.Raise.{nothing}

@@ -17,7 +17,7 @@ use Rattle.c_grammar.specs.declared.context.Context.{Context}
 use Rattle.c_grammar.specs.declared.context.Context.TheVariants.{InItem, InArgument, InTemplate}
 use Rattle.c_grammar.specs.Laws.{Agree}
 use Rattle.c_grammar.specs.Reader.{token_at, shape_at, span_at}
-use Rattle.c_grammar.specs.Spells.{Stand, Spelling, Spells, Node, Wraps, SpellsItem, declaration_at, span_from, heading}
+use Rattle.c_grammar.specs.Spells.{Stand, Spelling, Spells, Node, SpellsItem, declaration_at, span_from, heading}
 use Rattle.c_grammar.proofs.Local.{Match}
 use Rattle.c_grammar.proofs.Raise.{nothing}
 

@@ -19,7 +19,7 @@ use Rattle.syntax_trees.specs.declared.plain.PlainExp.TheVariants as e
 use Rattle.c_grammar.specs.declared.context.Context.{Context}
 use Rattle.c_grammar.specs.declared.context.Context.TheVariants.{InItem, InArgument, InTemplate}
 use Rattle.c_grammar.specs.Words.{is_identifier, callee, binder}
-use Rattle.c_grammar.specs.Reader.{Input, Reader, Outcome, Expression, Found, Turn, More, Last, Give, Next, Where, Bind, Call, pick, only, when, kind, before, through, next, shape_at, span_at, choose, token}
+use Rattle.c_grammar.specs.Reader.{Input, Reader, Outcome, Expression, Found, Turn, More, Last, Give, Next, Where, Bind, Call, pick, only, when, kind, before, through, next, shape_at, span_at, choose}
 use Rattle.c_grammar.specs.Grammar.{read, below, expression, primary, primary_by, parenthesized, called, closed, itself, call_from, placed, reserved, placeholder, is_opening, is_closing, is_named, climb, turn, binds, joined}
 use Rattle.c_grammar.specs.Spells.{Spells, Spelling, Node, span_from}
 use Rattle.c_grammar.proofs.Chain.{parts, in_parts}
