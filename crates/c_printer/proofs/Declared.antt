@@ -1,5 +1,5 @@
 -- The tokens of declarations that may be printed are written.
-use Rattle.std.proofs.Common.{◌≡◌, subst, sym, ap, ◌∙◌, ℕ, ◌+◌, nat_lt, Bool, true, false, bytes_eq, List, [], ◌∷◌, ◌++◌, Some}
+use Rattle.std.proofs.Common.{◌≡◌, subst, sym, ℕ, ◌+◌, nat_lt, Bool, true, false, bytes_eq, List, [], ◌∷◌, Some}
 use Rattle.std.specs.List.{IsDistinct}
 use Rattle.c_tokens.specs.declared.span.Span.{Span}
 use Rattle.c_tokens.specs.declared.token.Key.TheVariants as key

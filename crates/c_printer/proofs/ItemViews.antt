@@ -21,7 +21,6 @@ use Rattle.syntax_trees.specs.declared.nodes.DeclForm.TheVariants as kDecl
 use Rattle.syntax_trees.specs.declared.nodes.ItemForm.{ItemForm}
 use Rattle.syntax_trees.specs.declared.nodes.ItemForm.TheVariants as kItem
 use Rattle.syntax_trees.specs.declared.plain.PlainDecl.TheVariants as decl
-use Rattle.syntax_trees.specs.declared.plain.PlainDeclarator.TheVariants as declarator
 use Rattle.syntax_trees.specs.declared.plain.PlainInit.TheVariants as init
 use Rattle.syntax_trees.specs.declared.plain.PlainInitDeclarator.{out-roll-PlainInitDeclarator}
 use Rattle.syntax_trees.specs.declared.plain.PlainSpecs.{out-roll-PlainSpecs}

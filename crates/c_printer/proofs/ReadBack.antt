@@ -1,5 +1,5 @@
 -- A printed text is read back.
-use Rattle.std.proofs.Common.{◌≡◌, refl, subst, ap, sym, ◌∙◌, ℕ, ◌+◌, ◌≤◌, true, bytes_eq, List, [], ◌∷◌, ◌++◌, length, map, get_or, Some, None, false, append_assoc, add-one, arith}
+use Rattle.std.proofs.Common.{◌≡◌, refl, subst, ap, sym, ◌∙◌, ℕ, ◌+◌, ◌≤◌, true, bytes_eq, List, [], ◌∷◌, ◌++◌, length, map, get_or, Some, false, append_assoc, add-one, arith}
 use Rattle.std.specs.List.{IsDistinct}
 use Rattle.c_tokens.specs.declared.token.Punct.TheVariants as punct
 use Rattle.c_tokens.specs.declared.token.Shape.{Shape}

@@ -1,5 +1,5 @@
 -- Sameness of the forms that are read.
-use Rattle.std.proofs.Common.{◌≡◌, refl, ap, sym, subst, ◌∙◌, Bool, true, false, ◌&&◌, [], ◌∷◌, Some}
+use Rattle.std.proofs.Common.{◌≡◌, refl, ap, sym, subst, ◌∙◌, Bool, true, ◌&&◌, [], ◌∷◌}
 use Rattle.std.proofs.lemmas.Bool.{eq-eqb, and_from}
 use Rattle.c_tokens.specs.declared.span.Span.{Span}
 use Rattle.c_tokens.specs.declared.token.Word.{Word}
@@ -37,8 +37,6 @@ use Rattle.syntax_trees.specs.declared.nodes.DeclForm.{DeclForm}
 use Rattle.syntax_trees.specs.declared.nodes.DeclForm.TheVariants as kDecl
 use Rattle.syntax_trees.specs.declared.nodes.ItemForm.TheVariants as kItem
 use Rattle.syntax_trees.specs.declared.plain.PlainDeclarator.TheVariants as declarator
-use Rattle.syntax_trees.specs.declared.plain.PlainInit.TheVariants as init
-use Rattle.syntax_trees.specs.declared.plain.PlainSpec.TheVariants as spec
 use Rattle.c_trees.specs.Items.{item_of}
 use Rattle.c_trees.specs.declared.first.Declaration.{Declaration}
 use Rattle.c_trees.proofs.ItemViews.{specs_form, declarator_form}

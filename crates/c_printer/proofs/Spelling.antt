@@ -1,5 +1,5 @@
 -- The tokens of a tree spell it, spans aside.
-use Rattle.std.proofs.Common.{◌≡◌, refl, subst, sym, ap, ◌∙◌, ℕ, zero, suc, ◌+◌, ◌≤◌, max, nat_lt, Bool, true, false, ◌&&◌, List, [], ◌∷◌, ◌++◌, Option, Some, None, inl, inr, arith}
+use Rattle.std.proofs.Common.{◌≡◌, refl, subst, sym, ◌∙◌, ℕ, zero, suc, ◌+◌, ◌≤◌, max, nat_lt, Bool, true, false, List, [], ◌∷◌, ◌++◌, Option, None, inl, inr, arith}
 use Rattle.std.proofs.lemmas.Bool.{ltb-false, and_from}
 use Rattle.std.proofs.lemmas.Bool.Decides.{Decides-eqb}
 use Rattle.c_tokens.specs.declared.span.Span.{Span}
@@ -12,7 +12,7 @@ use Rattle.syntax_trees.specs.Levels.{level_with}
 use Rattle.syntax_trees.specs.declared.nodes.ExpForm.TheVariants as kExp
 use Rattle.syntax_trees.specs.declared.parts.BinaryOperator.{BinaryOperator}
 use Rattle.syntax_trees.specs.declared.parts.BinaryOperator.TheVariants as o
-use Rattle.syntax_trees.specs.declared.plain.PlainExp.{PlainExp, PlainExp-F, out-PlainExp}
+use Rattle.syntax_trees.specs.declared.plain.PlainExp.{PlainExp}
 use Rattle.syntax_trees.specs.declared.plain.PlainExp.TheVariants as e
 use Rattle.syntax_trees.specs.declared.plain.PlainArgument.TheViews.{outs-Name, outs-Int, outs-Binary}
 use Rattle.same_trees.specs.Leaves.{same_binary}
@@ -22,7 +22,7 @@ use Rattle.c_trees.specs.Built.{Built, a_name, a_constant, an_operation, a_hole,
 use Rattle.c_grammar.specs.declared.context.Context.{Context}
 use Rattle.c_grammar.specs.declared.context.Context.TheVariants.{InItem}
 use Rattle.c_grammar.specs.Reader.{span_at}
-use Rattle.c_grammar.specs.Spells.{Stand, sign_of, Joins, Node, Spells, Spelling, span_from}
+use Rattle.c_grammar.specs.Spells.{Stand, sign_of, Joins, Node, Spells, span_from}
 use Rattle.c_grammar.proofs.Raise.{nothing}
 use Rattle.c_printer.specs.Spelled.{enclosed, spelled, deeper_if, depth_of}
 use Rattle.c_printer.proofs.SpelledViews.{spelled_view, depth_view}

@@ -1,4 +1,4 @@
-use Rattle.std.proofs.Common.{◌≡◌, ◌∙◌, Result, Ok, Err}
+use Rattle.std.proofs.Common.{◌∙◌, Result, Ok, Err}
 use Rattle.std.specs.Prelude.{OnOk}
 use Rattle.c_printer.proofs.SpelledViews.{operation_written}
 use Rattle.c_printer.proofs.shapes.+spell.Goals as goal
