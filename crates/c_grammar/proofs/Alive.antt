@@ -14,8 +14,8 @@ use Rattle.c_tokens.specs.declared.token.Punct.TheVariants as punct
 use Rattle.c_tokens.specs.declared.token.Mark.TheVariants as mark
 use Rattle.syntax_trees.specs.declared.plain.PlainExp.{PlainExp}
 use Rattle.syntax_trees.specs.declared.plain.PlainExp.TheVariants as e
-use Rattle.c_trees.specs.Calls.{first_hole}
-use Rattle.c_trees.specs.declared.first.FirstItem.TheVariants as item
+use Rattle.first_trees.specs.Calls.{first_hole}
+use Rattle.first_trees.specs.declared.first.FirstItem.TheVariants as item
 use Rattle.c_grammar.specs.declared.context.Context.{Context}
 use Rattle.c_grammar.specs.declared.context.Context.TheVariants.{InItem, InArgument, InTemplate}
 use Rattle.c_grammar.specs.Words.{is_identifier, callee, binder, is_exp}

@@ -16,8 +16,8 @@ use Rattle.syntax_trees.specs.declared.parts.Hole.{Hole}
 use Rattle.syntax_trees.specs.declared.plain.PlainExp.{PlainExp, PlainExp-F, out-PlainExp, roll-PlainExp, roll-out-PlainExp}
 use Rattle.syntax_trees.specs.declared.plain.PlainExp.TheVariants as e
 use Rattle.syntax_trees.specs.declared.plain.PlainArgument.TheViews.{rolls-Name, rolls-Int, rolls-Binary, rolls-ExpHole, rolls-ExpCall}
-use Rattle.c_trees.specs.Built.{is_read}
-use Rattle.c_trees.specs.Calls.{first_call, first_hole}
+use Rattle.first_trees.specs.Built.{is_read}
+use Rattle.first_trees.specs.Calls.{first_call, first_hole}
 use Rattle.c_grammar.specs.declared.context.Context.{Context}
 use Rattle.c_grammar.specs.declared.context.Context.TheVariants.{InItem, InArgument, InTemplate}
 use Rattle.c_grammar.specs.Words.{is_identifier, callee}

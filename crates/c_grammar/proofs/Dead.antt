@@ -12,7 +12,7 @@ use Rattle.c_grammar.specs.Reader.{Reader, Outcome, Bind, Pick, token, only, pic
 use Rattle.c_grammar.specs.Grammar.{read, is_kind, is_bind, is_opening, is_pattern_open, is_result, word_of, bound, pattern, definition, defined, item_by, an_item}
 use Rattle.c_grammar.specs.Laws.{IsKnown, AreKnown, Dead, AnyDepth, Within}
 use Rattle.c_grammar.proofs.Words.{at_left, within_table}
-use Rattle.c_trees.specs.Named.{is_word_spelling}
+use Rattle.first_trees.specs.Named.{is_word_spelling}
 use Rattle.c_grammar.proofs.Loops.{goes_on}
 use Rattle.c_grammar.proofs.Derives.{placed}
 use Rattle.c_grammar.proofs.Local.{from, Same, local, onward}

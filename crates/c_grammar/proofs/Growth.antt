@@ -7,7 +7,7 @@ use Rattle.c_tokens.specs.declared.token.Token.{Token}
 use Rattle.c_tokens.specs.declared.token.Shape.TheVariants as s
 use Rattle.syntax_trees.specs.Levels.{ExpParts, level_with}
 use Rattle.syntax_trees.specs.declared.plain.PlainExp.{PlainExp, PlainExp-F, out-PlainExp}
-use Rattle.c_trees.specs.declared.first.Declaration.{Declaration}
+use Rattle.first_trees.specs.declared.first.Declaration.{Declaration}
 use Rattle.c_grammar.specs.declared.context.Context.TheVariants.{InItem}
 use Rattle.c_grammar.specs.Reader.{shape_at}
 use Rattle.c_grammar.specs.Spells.{Spelling, Spells, Node, SpellsDeclaration}

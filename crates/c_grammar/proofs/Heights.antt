@@ -8,9 +8,9 @@ use Rattle.syntax_trees.specs.declared.plain.PlainExp.{PlainExp, PlainExp-F, out
 use Rattle.syntax_trees.specs.declared.plain.PlainExp.TheVariants as e
 use Rattle.syntax_trees.specs.declared.plain.PlainArgument.TheViews.{rolls-Name, rolls-Int, rolls-Binary, rolls-ExpHole, rolls-ExpCall}
 use Rattle.syntax_trees.proofs.MeasureViews.{measure-Name, measure-Int, measure-Binary, measure-ExpHole}
-use Rattle.c_trees.proofs.CallViews.{height_first_call}
-use Rattle.c_trees.specs.declared.first.Declaration.{Declaration}
-use Rattle.c_trees.specs.declared.first.First.{First}
+use Rattle.first_trees.proofs.CallViews.{height_first_call}
+use Rattle.first_trees.specs.declared.first.Declaration.{Declaration}
+use Rattle.first_trees.specs.declared.first.First.{First}
 use Rattle.c_grammar.specs.declared.context.Context.{Context}
 use Rattle.c_grammar.specs.declared.context.Context.TheVariants.{InItem, InArgument, InTemplate}
 use Rattle.c_grammar.specs.Spells.{Spells, Spelling, Node, SpellsDeclaration, SpellsDefinition, span_from}

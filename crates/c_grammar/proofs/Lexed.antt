@@ -13,7 +13,7 @@ use Rattle.c_tokens.specs.declared.token.Token.{Token}
 use Rattle.c_tokens.specs.Skipped.{stands_first}
 use Rattle.c_tokens.specs.Spelling.{Sort, keyword, punctuator, mark, word, integer, floating, character, string, Spelling, space, marker, token, refused, spelling_of}
 use Rattle.c_tokens.specs.Tokens.{Piece, Bad, bad, meaning, number_in, shape_of, before, adds, tokens_in, pieces, tokens_of, with_text, gains, gained_in, gained, token_at as made}
-use Rattle.c_trees.specs.Named.{is_word_spelling, is_integer_spelling}
+use Rattle.first_trees.specs.Named.{is_word_spelling, is_integer_spelling}
 use Rattle.c_grammar.specs.Laws.{IsKnown, AreKnown}
 
 -- ---- texts of a table

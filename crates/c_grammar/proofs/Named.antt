@@ -7,12 +7,12 @@ use Rattle.syntax_trees.specs.Levels.{ExpParts}
 use Rattle.syntax_trees.specs.declared.plain.PlainExp.{PlainExp, PlainExp-F, out-PlainExp, roll-PlainExp, roll-out-PlainExp}
 use Rattle.syntax_trees.specs.declared.plain.PlainExp.TheVariants as e
 use Rattle.syntax_trees.specs.declared.plain.PlainArgument.TheViews.{rolls-Name, rolls-Int, rolls-Binary, rolls-ExpHole, rolls-ExpCall}
-use Rattle.c_trees.specs.Built.{Built, a_name, a_constant, an_operation, a_hole, a_call}
-use Rattle.c_trees.specs.Calls.{first_call, first_place}
+use Rattle.first_trees.specs.Built.{Built, a_name, a_constant, an_operation, a_hole, a_call}
+use Rattle.first_trees.specs.Calls.{first_call, first_place}
 use Rattle.syntax_trees.specs.declared.parts.Hole.{Hole}
-use Rattle.c_trees.specs.Named.{names_word, names_integer}
-use Rattle.c_trees.specs.declared.first.Declaration.{Declaration}
-use Rattle.c_trees.specs.declared.first.First.{First}
+use Rattle.first_trees.specs.Named.{names_word, names_integer}
+use Rattle.first_trees.specs.declared.first.Declaration.{Declaration}
+use Rattle.first_trees.specs.declared.first.First.{First}
 use Rattle.c_grammar.specs.declared.context.Context.{Context}
 use Rattle.c_grammar.specs.declared.context.Context.TheVariants.{InItem, InArgument, InTemplate}
 use Rattle.c_grammar.specs.Words.{callee, binder, has_holes, has_calls}

@@ -10,9 +10,9 @@ use Rattle.c_tokens.specs.declared.token.Punct.TheVariants as punct
 use Rattle.c_tokens.specs.declared.token.Mark.TheVariants as mark
 use Rattle.syntax_trees.specs.Levels.{ExpParts, level_with}
 use Rattle.syntax_trees.specs.declared.plain.PlainExp.{PlainExp, PlainExp-F, out-PlainExp, roll-PlainExp, out-roll-PlainExp}
-use Rattle.c_trees.specs.Calls.{first_call_of, first_place}
-use Rattle.c_trees.specs.declared.first.FirstItem.{FirstItem}
-use Rattle.c_trees.specs.declared.first.FirstItem.TheVariants as item
+use Rattle.first_trees.specs.Calls.{first_call_of, first_place}
+use Rattle.first_trees.specs.declared.first.FirstItem.{FirstItem}
+use Rattle.first_trees.specs.declared.first.FirstItem.TheVariants as item
 use Rattle.c_grammar.specs.declared.context.Context.{Context}
 use Rattle.c_grammar.specs.declared.context.Context.TheVariants.{InItem, InArgument, InTemplate}
 use Rattle.c_grammar.specs.Laws.{Agree}

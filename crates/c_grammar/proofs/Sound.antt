@@ -14,7 +14,7 @@ use Rattle.syntax_trees.specs.Levels.{ExpParts}
 use Rattle.syntax_trees.specs.declared.parts.BinaryOperator.TheVariants as o
 use Rattle.syntax_trees.specs.declared.plain.PlainExp.{PlainExp, PlainExp-F, out-PlainExp}
 use Rattle.syntax_trees.specs.declared.plain.PlainArgument.TheViews.{outs-Name, outs-Int, outs-Binary, outs-ExpHole, outs-ExpCall}
-use Rattle.c_trees.specs.Calls.{first_call, first_call_of, first_hole, first_place}
+use Rattle.first_trees.specs.Calls.{first_call, first_call_of, first_hole, first_place}
 use Rattle.syntax_trees.specs.declared.plain.PlainExp.TheVariants as e
 use Rattle.c_grammar.specs.declared.context.Context.{Context}
 use Rattle.c_grammar.specs.declared.context.Context.TheVariants.{InItem, InArgument, InTemplate}

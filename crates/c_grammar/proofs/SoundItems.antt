@@ -9,7 +9,7 @@ use Rattle.c_tokens.specs.declared.token.Key.TheVariants as key
 use Rattle.c_tokens.specs.declared.token.Punct.TheVariants as punct
 use Rattle.c_tokens.specs.declared.token.Mark.TheVariants as mark
 use Rattle.syntax_trees.specs.declared.plain.PlainExp.{PlainExp}
-use Rattle.c_trees.specs.declared.first.FirstItem.{FirstItem}
+use Rattle.first_trees.specs.declared.first.FirstItem.{FirstItem}
 use Rattle.c_grammar.specs.declared.context.Context.{Context}
 use Rattle.c_grammar.specs.declared.context.Context.TheVariants.{InItem, InTemplate}
 use Rattle.c_grammar.specs.Words.{is_identifier, text_of}

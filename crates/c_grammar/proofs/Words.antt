@@ -19,7 +19,7 @@ use Rattle.c_tokens.specs.Constants.{starts_with_digit, is_integer, is_hexadecim
 use Rattle.c_tokens.specs.Literals.{starts_literal, starts_with_quote, starts_wide}
 use Rattle.c_tokens.specs.Skipped.{starts_comment, starts_with_byte, starts_directive, starts_percent_colon}
 use Rattle.c_tokens.specs.Spelling.{Spelling, spelling_of, word_spelling, find_text, keywords, is_word, is_marked_word, is_word_after_at, is_number, goes_on_number, number_spelling, plain_spelling}
-use Rattle.c_trees.specs.Named.{is_word_spelling, is_integer_spelling}
+use Rattle.first_trees.specs.Named.{is_word_spelling, is_integer_spelling}
 use Rattle.std.proofs.Common.{nat_lt, ◌&&◌}
 
 abbrev at : List (List ℕ) → ℕ → List ℕ

@@ -11,9 +11,9 @@ use Rattle.c_tokens.specs.declared.token.Mark.TheVariants as mark
 use Rattle.c_tokens.specs.declared.span.Span.{Span}
 use Rattle.syntax_trees.specs.declared.parts.BinaryOperator.TheVariants as o
 use Rattle.syntax_trees.specs.declared.plain.PlainExp.TheVariants as e
-use Rattle.c_trees.specs.Calls.{first_call, first_hole}
-use Rattle.c_trees.specs.declared.first.FirstItem.{FirstItem}
-use Rattle.c_trees.specs.declared.first.FirstItem.TheVariants as item
+use Rattle.first_trees.specs.Calls.{first_call, first_hole}
+use Rattle.first_trees.specs.declared.first.FirstItem.{FirstItem}
+use Rattle.first_trees.specs.declared.first.FirstItem.TheVariants as item
 use Rattle.c_grammar.specs.declared.refusal.Refusal.TheVariants.{Syntax, TooDeep}
 use Rattle.c_grammar.specs.Reader.{loop}
 use Rattle.c_grammar.specs.Grammar.{read, below, expression, primary, climb, longer, parenthesized, closed, called, placed, quoted, quote, meta_block, block, bound, pattern, definition, valued, declaration, an_item}

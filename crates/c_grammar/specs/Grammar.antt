@@ -11,9 +11,9 @@ use Rattle.syntax_trees.specs.declared.parts.BinaryOperator.{BinaryOperator}
 use Rattle.syntax_trees.specs.declared.parts.BinaryOperator.TheVariants as o
 use Rattle.syntax_trees.specs.declared.plain.PlainExp.{PlainExp}
 use Rattle.syntax_trees.specs.declared.plain.PlainExp.TheVariants as e
-use Rattle.c_trees.specs.Calls.{first_hole, first_call}
-use Rattle.c_trees.specs.declared.first.FirstItem.{FirstItem}
-use Rattle.c_trees.specs.declared.first.FirstItem.TheVariants as item
+use Rattle.first_trees.specs.Calls.{first_hole, first_call}
+use Rattle.first_trees.specs.declared.first.FirstItem.{FirstItem}
+use Rattle.first_trees.specs.declared.first.FirstItem.TheVariants as item
 use Rattle.c_grammar.specs.declared.context.Context.{Context}
 use Rattle.c_grammar.specs.declared.refusal.Refusal.TheVariants.{TooDeep}
 use Rattle.c_grammar.specs.Words.{is_identifier, callee, binder, is_exp}

@@ -4,8 +4,8 @@ use Rattle.c_tokens.specs.declared.token.Word.{Word}
 use Rattle.c_tokens.specs.declared.token.Token.{Token}
 use Rattle.c_tokens.specs.declared.token.Shape.{Shape}
 use Rattle.c_tokens.specs.declared.token.Shape.TheVariants as s
-use Rattle.c_trees.specs.Named.{names_word, names_integer}
-use Rattle.c_trees.specs.declared.first.FirstItem.{FirstItem}
+use Rattle.first_trees.specs.Named.{names_word, names_integer}
+use Rattle.first_trees.specs.declared.first.FirstItem.{FirstItem}
 use Rattle.c_grammar.specs.Words.{AreDistinct}
 use Rattle.c_grammar.specs.Reader.{shape_at}
 use Rattle.c_grammar.specs.Spells.{SpellsItem}

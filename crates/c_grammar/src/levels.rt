@@ -3,7 +3,7 @@
 ghost use Rattle.std.specs.Prelude.{◌≡◌};
 ghost use Rattle.syntax_trees.specs.Levels as levels;
 
-use c_trees::{BinaryOperator, Exp, ExpForm};
+use first_trees::{BinaryOperator, Exp, ExpForm};
 
 /// The level of the form of an operator between two operands (ISO/IEC 9899:1990, 6.3.5 to 6.3.14).
 pub fn level_with(operator: BinaryOperator) -> u8

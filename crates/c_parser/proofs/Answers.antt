@@ -2,7 +2,7 @@
 use Rattle.std.proofs.Common.{◌≡◌, ◌≢◌, refl, sym, subst, ap, ◌∙◌, ℕ, ◌≤◌, List, Option, Result, Ok, Err}
 use Rattle.c_tokens.specs.declared.token.Word.{Word}
 use Rattle.c_tokens.specs.declared.token.Token.{Token}
-use Rattle.c_trees.specs.declared.first.FirstItem.{FirstItem}
+use Rattle.first_trees.specs.declared.first.FirstItem.{FirstItem}
 use Rattle.c_grammar.specs.declared.refusal.Refusal.{Refusal}
 use Rattle.c_grammar.specs.declared.refusal.Refusal.TheVariants.{Memory, Syntax, TooDeep}
 use Rattle.c_grammar.specs.Words.{AreDistinct}

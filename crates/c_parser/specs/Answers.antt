@@ -2,7 +2,7 @@
 use Rattle.std.specs.Prelude.{◌≡◌, Option, Some, None, Result, Ok, Err}
 use denote.Ref.{Bor}
 use Rattle.c_tokens.specs.declared.token.Word.{Word}
-use Rattle.c_trees.specs.declared.first.First.{First}
+use Rattle.first_trees.specs.declared.first.First.{First}
 use Rattle.c_grammar.specs.declared.refusal.Refusal.{Refusal}
 use Rattle.c_grammar.specs.declared.refusal.Refusal.TheVariants.{Memory}
 

@@ -14,7 +14,7 @@ use crate::cursor::Cursor;
 use crate::tokens::{is_closing, is_named, is_opening};
 use c_grammar::{Context, Refusal};
 use c_tokens::{Kind, Mark, Memory, Punct, Shape, Span, Word};
-use c_trees::{BinaryOperator, Exp, Hole, first_call};
+use first_trees::{BinaryOperator, Exp, Hole, first_call};
 use std::alloc::Global;
 
 /// How tightly an operator binds, and 0 for any other token.
@@ -108,7 +108,7 @@ impl<
         Ok((inner.0, inner.1 + 1))
     }
 
-    #[tactic(auto, using(c_trees::proofs::CallViews::height_first_call, c_trees::proofs::CallViews::single_first_call), unfolding(c_grammar::specs::Grammar::called, c_grammar::specs::Grammar::closed))]
+    #[tactic(auto, using(first_trees::proofs::CallViews::height_first_call, first_trees::proofs::CallViews::single_first_call), unfolding(c_grammar::specs::Grammar::called, c_grammar::specs::Grammar::closed))]
     fn called(&self, cursor: &mut Cursor<'_>, name: Word) -> Result<(Exp, usize), Refusal>
         requires depth { self.now.depth ≤ 1000 }
         requires nests { Nests self.now.depth (F.pre self.now.expression) (F.post self.now.expression) }

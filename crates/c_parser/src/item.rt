@@ -15,7 +15,7 @@ use crate::tokens::{
 };
 use c_grammar::{Context, Refusal};
 use c_tokens::{Key, Mark, Punct, Shape, Span, Word, Words};
-use c_trees::{Declaration, Exp, First, FirstItem};
+use first_trees::{Declaration, Exp, First, FirstItem};
 use std::alloc::Global;
 
 /// What follows the mark of a template.

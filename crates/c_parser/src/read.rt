@@ -1,7 +1,7 @@
 //! The next item of a list of tokens.
 
 ghost use Rattle.std.specs.Prelude.{◌≡◌, ◌≤◌, ℕ, IfOk, IfErr};
-ghost use Rattle.c_trees.specs.declared.first.FirstItem as tree;
+ghost use Rattle.first_trees.specs.declared.first.FirstItem as tree;
 ghost use Rattle.c_grammar.specs.Laws.{AreKnown, IsFirstDead, IsTooDeep};
 ghost use Rattle.c_grammar.specs.Spells.{SpellsItem};
 ghost use Rattle.c_parser.specs.Answers.{Gives};
@@ -11,7 +11,7 @@ use crate::cursor::Cursor;
 use crate::item::item;
 use c_grammar::Refusal;
 use c_tokens::{Token, Word, Words};
-use c_trees::{First, FirstItem};
+use first_trees::{First, FirstItem};
 use std::alloc::Global;
 
 /// The greatest depth of an item that is read.

@@ -12,9 +12,9 @@ use Rattle.syntax_trees.specs.declared.parts.BinaryOperator.{BinaryOperator}
 use Rattle.syntax_trees.specs.declared.parts.BinaryOperator.TheVariants as o
 use Rattle.syntax_trees.specs.declared.plain.PlainExp.{PlainExp}
 use Rattle.syntax_trees.specs.declared.plain.PlainExp.TheVariants as e
-use Rattle.c_trees.specs.Built.{Built, a_name, a_constant, an_operation, a_hole, a_call, is_read}
-use Rattle.c_trees.specs.Named.{names_word}
-use Rattle.c_trees.specs.declared.first.Declaration.{Declaration}
+use Rattle.first_trees.specs.Built.{Built, a_name, a_constant, an_operation, a_hole, a_call, is_read}
+use Rattle.first_trees.specs.Named.{names_word}
+use Rattle.first_trees.specs.declared.first.Declaration.{Declaration}
 use Rattle.c_grammar.specs.Spells.{sign_of}
 use Rattle.c_printer.specs.Spelled.{enclosed, spelled, spelled_declaration}
 use Rattle.c_printer.proofs.SpelledViews.{spelled_view}

@@ -48,9 +48,9 @@ use Rattle.syntax_trees.specs.declared.plain.PlainArgument.TheViews.{
   outs-ItemHole,
   outs-ItemCall,
 }
-use Rattle.c_trees.specs.Items.{item_of}
-use Rattle.c_trees.specs.declared.first.Declaration.{Declaration}
-use Rattle.c_trees.proofs.ItemViews.{specs_form, declarator_form, specs_in, declarator_in}
+use Rattle.first_trees.specs.Items.{item_of}
+use Rattle.first_trees.specs.declared.first.Declaration.{Declaration}
+use Rattle.first_trees.proofs.ItemViews.{specs_form, declarator_form, specs_in, declarator_in}
 use Rattle.c_printer.specs.Spelled.{spelled, spelled_declaration, spelled_basic, spelled_spec_parts, spelled_spec, spelled_lone_spec, spelled_specs, spelled_id, spelled_declarator_parts, spelled_declarator, spelled_init_parts, spelled_init, spelled_held_init, spelled_init_declarator, spelled_lone_declarator, spelled_decl_parts, spelled_decl, spelled_item_parts, spelled_item}
 
 abbrev pub spelled_form_spec : SpecForm → List Shape

@@ -8,9 +8,9 @@ use Rattle.c_tokens.specs.declared.token.Token.{Token}
 use Rattle.c_tokens.specs.Tokens.{tokens_of, pieces}
 use Rattle.syntax_trees.specs.declared.plain.PlainItem.{PlainItem}
 use Rattle.same_trees.specs.Same.{same_item}
-use Rattle.c_trees.specs.Built.{Built}
-use Rattle.c_trees.specs.Items.{item_of}
-use Rattle.c_trees.specs.declared.first.Declaration.{Declaration}
+use Rattle.first_trees.specs.Built.{Built}
+use Rattle.first_trees.specs.Items.{item_of}
+use Rattle.first_trees.specs.declared.first.Declaration.{Declaration}
 use Rattle.c_grammar.specs.Reader.{shape_at, the_end}
 use Rattle.c_grammar.specs.Spells.{Stand, declaration_at}
 use Rattle.c_printer.specs.Spelled.{spelled, spelled_declaration, spelled_item, depth_of}

@@ -37,9 +37,9 @@ use Rattle.syntax_trees.specs.declared.nodes.DeclForm.{DeclForm}
 use Rattle.syntax_trees.specs.declared.nodes.DeclForm.TheVariants as kDecl
 use Rattle.syntax_trees.specs.declared.nodes.ItemForm.TheVariants as kItem
 use Rattle.syntax_trees.specs.declared.plain.PlainDeclarator.TheVariants as declarator
-use Rattle.c_trees.specs.Items.{item_of}
-use Rattle.c_trees.specs.declared.first.Declaration.{Declaration}
-use Rattle.c_trees.proofs.ItemViews.{specs_form, declarator_form}
+use Rattle.first_trees.specs.Items.{item_of}
+use Rattle.first_trees.specs.declared.first.Declaration.{Declaration}
+use Rattle.first_trees.proofs.ItemViews.{specs_form, declarator_form}
 use Rattle.same_trees.proofs.SameViews.{same_specs_view, same_spec_view, same_declarator_view, same_init_view, same_init_declarator_view, same_decl_view, same_item_view}
 use Rattle.same_trees.specs.Same.{same_item, same_specs, same_declarator, same_init_declarator, same_exp, meets_exp, same_at_argument, same_at_body, same_at_decl, same_at_declarator, same_at_exp, same_at_init, same_at_item, same_at_member, same_at_param, same_at_params, same_at_spec, same_at_stmt, same_at_tree, same_at_block, same_at_call, same_at_enumerator, same_at_init_declarator, same_at_member_declarator, same_at_specs, same_at_type_name}
 

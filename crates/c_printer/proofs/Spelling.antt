@@ -18,7 +18,7 @@ use Rattle.syntax_trees.specs.declared.plain.PlainArgument.TheViews.{outs-Name, 
 use Rattle.same_trees.specs.Leaves.{same_binary}
 use Rattle.same_trees.specs.Same.{same_exp}
 use Rattle.c_printer.proofs.SameForms.{same_name, same_int, same_operation}
-use Rattle.c_trees.specs.Built.{Built, a_name, a_constant, an_operation, a_hole, a_call, is_read}
+use Rattle.first_trees.specs.Built.{Built, a_name, a_constant, an_operation, a_hole, a_call, is_read}
 use Rattle.c_grammar.specs.declared.context.Context.{Context}
 use Rattle.c_grammar.specs.declared.context.Context.TheVariants.{InItem}
 use Rattle.c_grammar.specs.Reader.{span_at}

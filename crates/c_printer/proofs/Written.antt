@@ -21,7 +21,7 @@ use Rattle.c_tokens.specs.declared.lexical.Dialect.TheVariants.{C90}
 use Rattle.c_printer.proofs.Opens.{IsPlainSort}
 use Rattle.c_printer.proofs.Longest.{IsToken}
 use Rattle.c_tokens.specs.Tokens.{shape_of, number_in}
-use Rattle.c_trees.specs.Named.{is_word_spelling, is_integer_spelling, names_word, names_integer}
+use Rattle.first_trees.specs.Named.{is_word_spelling, is_integer_spelling, names_word, names_integer}
 use Rattle.c_grammar.specs.Words.{text_of}
 use Rattle.c_printer.specs.Texts.{text_of_key, text_of_punct, text_of_shape}
 

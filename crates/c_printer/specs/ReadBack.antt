@@ -7,10 +7,10 @@ use Rattle.c_tokens.specs.declared.lexical.Dialect.TheVariants.{C90}
 use Rattle.c_tokens.specs.Tokens.{tokens_of}
 use Rattle.syntax_trees.specs.declared.plain.PlainItem.{PlainItem}
 use Rattle.same_trees.specs.Same.{same_item}
-use Rattle.c_trees.specs.Built.{Built}
-use Rattle.c_trees.specs.Items.{item_of}
-use Rattle.c_trees.specs.Named.{names_word}
-use Rattle.c_trees.specs.declared.first.Declaration.{Declaration}
+use Rattle.first_trees.specs.Built.{Built}
+use Rattle.first_trees.specs.Items.{item_of}
+use Rattle.first_trees.specs.Named.{names_word}
+use Rattle.first_trees.specs.declared.first.Declaration.{Declaration}
 use Rattle.c_grammar.specs.Reader.{shape_at}
 use Rattle.c_grammar.specs.Spells.{SpellsDeclaration}
 use Rattle.c_printer.specs.Spelled.{depth_of}

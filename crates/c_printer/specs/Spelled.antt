@@ -18,7 +18,7 @@ use Rattle.syntax_trees.specs.declared.plain.PlainItem.{PlainItem, PlainItem-F, 
 use Rattle.syntax_trees.specs.declared.plain.PlainSpec.{PlainSpec, PlainSpec-F, out-PlainSpec}
 use Rattle.syntax_trees.specs.declared.plain.PlainSpecs.{PlainSpecs, out-PlainSpecs}
 use Rattle.same_trees.specs.Same.{SpecParts, DeclaratorParts, InitParts, DeclParts, ItemParts}
-use Rattle.c_trees.specs.declared.first.Declaration.{Declaration}
+use Rattle.first_trees.specs.declared.first.Declaration.{Declaration}
 use Rattle.c_grammar.specs.Spells.{sign_of}
 
 -- in parentheses, if the first argument is true

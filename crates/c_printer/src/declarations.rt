@@ -5,7 +5,7 @@ ghost use Rattle.c_printer.specs.Spelled.{spelled_lone_spec, spelled_spec, spell
 
 use crate::shapes::spell;
 use c_tokens::{Key, Memory, Punct, Shape};
-use c_trees::{
+use first_trees::{
     BasicType, Decl, DeclForm, Declarator, DeclaratorForm, IdPart, Init, InitDeclarator, InitForm,
     Item, ItemForm, Spec, SpecForm, Specs,
 };

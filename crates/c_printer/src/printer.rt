@@ -8,7 +8,7 @@ ghost use Rattle.c_printer.specs.ReadBack.{IsReadBack};
 use crate::declarations::item_shapes;
 use crate::lines::write_line;
 use c_tokens::{Memory, Words};
-use c_trees::Item;
+use first_trees::Item;
 use std::alloc::Global;
 
 /// The text of items, one a line. It takes time linear in the text.
@@ -28,7 +28,7 @@ pub fn print(alloc: Global, items: &[Item], words: &Words) -> Result<Vec<u8>, Me
 mod tests {
     use super::*;
     use c_tokens::Span;
-    use c_trees::{BinaryOperator, Declaration, Exp, ExpForm, Node};
+    use first_trees::{BinaryOperator, Declaration, Exp, ExpForm, Node};
     use std::test::Fail;
 
     const AT: Span = Span { start: 0, end: 0 };

@@ -6,7 +6,7 @@ ghost use Rattle.c_printer.specs.Spelled.{spelled};
 
 use c_grammar::{level_with, needs_parens};
 use c_tokens::{Memory, Punct, Shape};
-use c_trees::{BinaryOperator, Exp, ExpForm};
+use first_trees::{BinaryOperator, Exp, ExpForm};
 
 fn sign_of(operator: BinaryOperator) -> Shape
     ensures { result ≡ spells.sign_of operator }

@@ -10,3 +10,5 @@ pub mod Steps
 pub mod Opened
 pub mod Ends
 pub mod Dialects
+pub mod ClassNumbers
+pub mod ClassLimits

@@ -1,5 +1,6 @@
 pub mod Bytes
 pub mod ClassOf
+pub mod ClassNumbers
 pub mod Constants
 pub mod Literals
 pub mod Skipped

@@ -1,6 +1,7 @@
 //! Classes of tokens, in which all words are alike.
 
 ghost use Rattle.std.specs.Prelude.{◌≡◌};
+ghost use Rattle.c_tokens.specs.ClassNumbers.{class_number};
 ghost use Rattle.c_tokens.specs.ClassOf.{class_of};
 
 use crate::kind::Kind;
@@ -38,6 +39,24 @@ impl Class {
             Shape::Char(_) => Class::Char,
             Shape::Str(_) => Class::Str,
             Shape::End => Class::End,
+        }
+    }
+
+    /// Its number, one for each class. All but the placeholders with lists are below 128.
+    pub fn number(self) -> u32
+        ensures { result ≡ class_number self }
+    {
+        match self {
+            Class::Key(key) => key as u32,
+            Class::Punct(punct) => 32 + punct as u32,
+            Class::Mark(mark) => 78 + mark as u32,
+            Class::Word => 113,
+            Class::Int => 114,
+            Class::Float => 115,
+            Class::Char => 116,
+            Class::Str => 117,
+            Class::End => 118,
+            Class::Hole(kind, lists) => 119 + kind as u32 + 9 * lists as u32,
         }
     }
 }

@@ -9,14 +9,14 @@ use Rattle.c_tokens.specs.declared.token.Shape.TheVariants as s
 use Rattle.c_tokens.specs.declared.token.Key.TheVariants as key
 use Rattle.c_tokens.specs.declared.token.Mark.TheVariants as mark
 use Rattle.syntax_trees.specs.declared.plain.PlainItem.{PlainItem}
-use Rattle.c_trees.specs.declared.first.Declaration.{Declaration}
-use Rattle.c_trees.proofs.ItemViews.{built_single}
-use Rattle.c_trees.specs.declared.first.First.{First}
-use Rattle.c_trees.specs.declared.first.FirstItem.{FirstItem}
+use Rattle.first_trees.specs.declared.first.Declaration.{Declaration}
+use Rattle.first_trees.proofs.ItemViews.{built_single}
+use Rattle.first_trees.specs.declared.first.First.{First}
+use Rattle.first_trees.specs.declared.first.FirstItem.{FirstItem}
 use Rattle.c_grammar.specs.Reader.{shape_at}
 use Rattle.c_grammar.specs.Grammar.{an_item, item_by, defined as defines}
 use Rattle.c_tokens.specs.declared.token.Punct.TheVariants as punct
-use Rattle.c_trees.specs.declared.first.FirstItem.TheVariants as item
+use Rattle.first_trees.specs.declared.first.FirstItem.TheVariants as item
 use Rattle.c_grammar.specs.Spells.{SpellsItem, SpellsDeclaration}
 use Rattle.c_grammar.specs.Laws.{AreKnown, IsFirstDead, IsTooDeep}
 use Rattle.c_grammar.proofs.Heights.{low_value, low_template}

@@ -4,10 +4,10 @@ use denote.Ref.{Bor}
 use Rattle.c_tokens.specs.declared.token.Word.{Word}
 use Rattle.c_tokens.specs.declared.token.Token.{Token}
 use Rattle.c_tokens.specs.declared.token.Shape.TheVariants.{End}
-use Rattle.c_trees.specs.declared.first.Declaration.{Declaration}
-use Rattle.c_trees.specs.declared.first.First.{First}
-use Rattle.c_trees.specs.declared.first.FirstItem.{FirstItem}
-use Rattle.c_trees.specs.declared.first.FirstItem.TheVariants as item
+use Rattle.first_trees.specs.declared.first.Declaration.{Declaration}
+use Rattle.first_trees.specs.declared.first.First.{First}
+use Rattle.first_trees.specs.declared.first.FirstItem.{FirstItem}
+use Rattle.first_trees.specs.declared.first.FirstItem.TheVariants as item
 use Rattle.c_grammar.specs.Reader.{shape_at, token_at}
 use Rattle.c_grammar.specs.Spells.{SpellsItem}
 use Rattle.c_grammar.specs.Laws.{IsFirstDead, IsTooDeep}
@@ -16,8 +16,8 @@ use Rattle.c_grammar.specs.declared.refusal.Refusal.TheVariants as refusal
 use Rattle.syntax_trees.specs.Measures.{height_of_exp}
 use Rattle.syntax_trees.specs.Standings.{is_listed_exp}
 use Rattle.syntax_trees.specs.declared.plain.PlainItem.{PlainItem}
-use Rattle.c_trees.specs.Built.{Built}
-use Rattle.c_trees.specs.Items.{item_of}
+use Rattle.first_trees.specs.Built.{Built}
+use Rattle.first_trees.specs.Items.{item_of}
 use Rattle.templates.specs.Filling.{expanded}
 use Rattle.templates.specs.Forms.{is_template, is_value}
 use Rattle.expander.specs.declared.stop.Stop.{Stop}

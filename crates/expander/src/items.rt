@@ -4,13 +4,13 @@ ghost use Rattle.std.specs.Prelude.{◌≡◌, ◌++◌, ◌↔◌, IfOk, IfErr,
 ghost use Rattle.c_tokens.specs.declared.token.Shape.TheVariants.{End};
 ghost use Rattle.c_grammar.specs.Reader.{shape_at, token_at};
 ghost use Rattle.c_grammar.specs.Laws.{AreKnown};
-ghost use Rattle.c_trees.specs.Items.{item_of};
+ghost use Rattle.first_trees.specs.Items.{item_of};
 ghost use Rattle.expander.specs.Meaning.{AreFew, IsReady, CanExpand, CanTake, seen, IsTranslation, IsStop, IsTaken, IsRefusal, name_of, defined, meaning_of, value_seen, stop_at};
 
 use crate::stop::Stop;
 use c_parser::{Refusal, read_item};
 use c_tokens::{Memory, Shape, Span, Token, Words};
-use c_trees::{Declaration, First, FirstItem, Item};
+use first_trees::{Declaration, First, FirstItem, Item};
 use sqlite_items::Items;
 use std::alloc::Global;
 use templates::expand;

@@ -5,16 +5,16 @@ use Rattle.std.proofs.lemmas.List.Elements.{All-nil, All-cons}
 use Rattle.c_tokens.specs.declared.token.Token.{Token}
 use Rattle.syntax_trees.specs.Measures.{is_pure_item}
 use Rattle.syntax_trees.specs.declared.plain.PlainItem.{PlainItem}
-use Rattle.c_trees.specs.Built.{Built}
-use Rattle.c_trees.specs.Named.{names_word}
-use Rattle.c_trees.specs.declared.first.Declaration.{Declaration}
-use Rattle.c_trees.specs.declared.first.First.{First}
-use Rattle.c_trees.specs.declared.first.FirstItem.{FirstItem}
-use Rattle.c_trees.specs.declared.first.FirstItem.TheVariants as item
+use Rattle.first_trees.specs.Built.{Built}
+use Rattle.first_trees.specs.Named.{names_word}
+use Rattle.first_trees.specs.declared.first.Declaration.{Declaration}
+use Rattle.first_trees.specs.declared.first.First.{First}
+use Rattle.first_trees.specs.declared.first.FirstItem.{FirstItem}
+use Rattle.first_trees.specs.declared.first.FirstItem.TheVariants as item
 use Rattle.c_grammar.specs.Laws.{AreKnown}
 use Rattle.c_grammar.specs.Spells.{SpellsItem, SpellsDeclaration}
 use Rattle.c_grammar.proofs.Named.{named_declaration, built_value, built_template}
-use Rattle.c_trees.proofs.ItemViews.{item_is_pure}
+use Rattle.first_trees.proofs.ItemViews.{item_is_pure}
 use Rattle.c_printer.specs.ReadBack.{IsPrintable, ArePrintable}
 use Rattle.templates.proofs.Kept.{expanded_built, pure_built}
 use Rattle.expander.specs.Meaning.{limit, name_of, defined, Read, value_under, meaning_of, meaning}

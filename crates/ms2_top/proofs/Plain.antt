@@ -5,9 +5,9 @@ use Rattle.c_tokens.specs.declared.token.Shape.TheVariants.{End}
 use Rattle.c_tokens.specs.declared.token.Shape.TheVariants as s
 use Rattle.c_tokens.specs.declared.token.Key.TheVariants as key
 use Rattle.syntax_trees.specs.declared.plain.PlainItem.{PlainItem}
-use Rattle.c_trees.specs.Items.{item_of}
-use Rattle.c_trees.specs.declared.first.Declaration.{Declaration}
-use Rattle.c_trees.specs.declared.first.FirstItem.TheVariants as item
+use Rattle.first_trees.specs.Items.{item_of}
+use Rattle.first_trees.specs.declared.first.Declaration.{Declaration}
+use Rattle.first_trees.specs.declared.first.FirstItem.TheVariants as item
 use Rattle.c_grammar.specs.Reader.{shape_at}
 use Rattle.c_grammar.proofs.Unique.{one_item}
 use Rattle.c_printer.specs.ReadBack.{SpellsPlain, SpellInTurn}

@@ -5,7 +5,7 @@ use Rattle.c_tokens.specs.declared.token.Token.{Token}
 use Rattle.c_tokens.specs.declared.lexical.Dialect.TheVariants.{C90}
 use Rattle.c_tokens.specs.Tokens.{tokens_of}
 use Rattle.syntax_trees.specs.declared.plain.PlainItem.{PlainItem}
-use Rattle.c_trees.specs.declared.first.FirstItem.{FirstItem}
+use Rattle.first_trees.specs.declared.first.FirstItem.{FirstItem}
 use Rattle.c_grammar.specs.Words.{AreDistinct}
 use Rattle.c_grammar.specs.Laws.{AreKnown}
 use Rattle.c_grammar.proofs.Lexed.{known_tokens}

@@ -8,7 +8,7 @@ use Rattle.c_tokens.specs.declared.lexical.LexCause.{LexCause}
 use Rattle.c_tokens.specs.Tokens.{tokens_of, gained, bad}
 use Rattle.syntax_trees.specs.Measures.{is_pure_item}
 use Rattle.syntax_trees.specs.declared.plain.PlainItem.{PlainItem}
-use Rattle.c_trees.specs.declared.first.FirstItem.{FirstItem}
+use Rattle.first_trees.specs.declared.first.FirstItem.{FirstItem}
 use Rattle.c_grammar.specs.Reader.{shape_at}
 use Rattle.c_printer.specs.Layout.{layout}
 use Rattle.c_printer.specs.ReadBack.{SpellInTurn, AreSame}

@@ -5,7 +5,8 @@ use Rattle.std.proofs.lemmas.List.{take_more}
 use Rattle.std.proofs.lemmas.List.Folds.{list_all_at}
 use Rattle.std.proofs.lemmas.Bool.Decides.{nat_tests}
 use Rattle.c_tokens.specs.declared.class.Class.{Class}
-use Rattle.pattern_language.specs.Classes.{one_of, only, is_common, class_number}
+use Rattle.c_tokens.specs.ClassNumbers.{class_number}
+use Rattle.pattern_language.specs.Classes.{one_of, only, is_common}
 
 pub or_assoc : (a b c : Bool) → (a || (b || c)) ≡ ((a || b) || c)
 or_assoc true b c = refl

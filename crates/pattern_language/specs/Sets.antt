@@ -2,7 +2,8 @@
 use Rattle.std.specs.Prelude.{nat_eq}
 use Rattle.std.specs.Int.{bit_at}
 use Rattle.pattern_language.specs.declared.class_set.ClassSet.{ClassSet}
-use Rattle.pattern_language.specs.Classes.{Classes, class_number}
+use Rattle.c_tokens.specs.ClassNumbers.{class_number}
+use Rattle.pattern_language.specs.Classes.{Classes}
 
 -- bit n of the set is for the class of number n
 abbrev pub has : ClassSet → Classes

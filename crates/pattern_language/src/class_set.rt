@@ -1,6 +1,7 @@
 //! Sets of classes of tokens.
 
 ghost use Rattle.std.specs.Prelude.{◌≡◌, ◌<◌, ◌↔◌, IsTrue};
+ghost use Rattle.c_tokens.specs.ClassNumbers.{class_number};
 ghost use Rattle.c_tokens.specs.declared.class.Class.{Class};
 ghost use Rattle.pattern_language.specs.Classes as classes;
 ghost use Rattle.pattern_language.specs.Sets as sets;
@@ -11,23 +12,6 @@ use c_tokens::Class;
 #[derive(Clone, Copy, Debug)]
 pub struct ClassSet {
     bits: u128,
-}
-
-fn class_number(class: Class) -> u32
-    ensures { result ≡ classes.class_number class }
-{
-    match class {
-        Class::Key(key) => key as u32,
-        Class::Punct(punct) => 32 + punct as u32,
-        Class::Mark(mark) => 78 + mark as u32,
-        Class::Word => 113,
-        Class::Int => 114,
-        Class::Float => 115,
-        Class::Char => 116,
-        Class::Str => 117,
-        Class::End => 118,
-        Class::Hole(kind, lists) => 119 + kind as u32 + 9 * lists as u32,
-    }
 }
 
 impl ClassSet {
@@ -41,7 +25,7 @@ impl ClassSet {
         ensures { result ≡ sets.has self.now class }
     {
         let bits = self.bits;
-        let number = class_number(class);
+        let number = class.number();
         number < 128 && bits >> number & 1 == 1
     }
 
@@ -64,11 +48,11 @@ impl ClassSet {
 
     /// The set with one class more, which is no placeholder with lists.
     pub(crate) fn with(self, added: Class) -> ClassSet
-        requires { classes.class_number added < 128 }
+        requires { class_number added < 128 }
         ensures { (class : Class) → sets.has result class ≡ classes.either (sets.has self) (classes.only added) class }
     {
         ClassSet {
-            bits: self.bits | 1 << class_number(added),
+            bits: self.bits | 1 << added.number(),
         }
     }
 }

@@ -31,7 +31,7 @@ pub(crate) fn can_be_empty(pattern: &[Element]) -> bool
 
 /// With which classes the elements begin: those of each element up to the first that cannot be
 /// empty.
-#[tactic(auto, using(crate::proofs::Elements::rests, crate::proofs::SetLemmas::one_of_lists, crate::proofs::Below::class_of_common), unfolding(crate::specs::Patterns::first_of))]
+#[tactic(auto, using(crate::proofs::Elements::rests, crate::proofs::SetLemmas::one_of_lists, c_tokens::proofs::ClassLimits::class_of_common), unfolding(crate::specs::Patterns::first_of))]
 pub fn first_of(pattern: &[Element]) -> ClassSet
     ensures { (class : Class) → has result class ≡ patterns.first_of (pattern_of pattern.now) class }
 {
@@ -53,7 +53,7 @@ pub fn first_of(pattern: &[Element]) -> ClassSet
 }
 
 /// What may stand after a turn of a repetition.
-#[tactic(auto, using(crate::proofs::Below::class_of_common))]
+#[tactic(auto, using(c_tokens::proofs::ClassLimits::class_of_common))]
 pub(crate) fn between(sep: &Option<Token>, body: &[Element]) -> ClassSet
     ensures { (class : Class) → has result class ≡ patterns.between sep.now (pattern_of body.now) class }
 {
@@ -65,7 +65,7 @@ pub(crate) fn between(sep: &Option<Token>, body: &[Element]) -> ClassSet
 
 /// Which classes may go on with the elements: those of each element after which the others can be
 /// empty.
-#[tactic(auto, using(crate::proofs::Elements::rests, crate::proofs::SetLemmas::one_of_lists, crate::proofs::Below::class_of_common), unfolding(crate::specs::Patterns::cont_of, crate::specs::Patterns::can_be_empty))]
+#[tactic(auto, using(crate::proofs::Elements::rests, crate::proofs::SetLemmas::one_of_lists, c_tokens::proofs::ClassLimits::class_of_common), unfolding(crate::specs::Patterns::cont_of, crate::specs::Patterns::can_be_empty))]
 pub fn cont_of(pattern: &[Element]) -> ClassSet
     ensures { (class : Class) → has result class ≡ patterns.cont_of (pattern_of pattern.now) class }
 {

@@ -1,8 +1,2 @@
-//! Sameness of syntax trees, spans aside.
+//! Sameness of syntax trees, spans aside, as definitions and lemmas: no code asks for it so far.
 #![tactic(auto)]
-
-mod leaves;
-mod same;
-mod sameness;
-
-pub use sameness::Same;

@@ -4,8 +4,8 @@ use Rattle.std.proofs.Math.Dec.{eqb}
 use Rattle.std.proofs.lemmas.Bool.Decides.{nat_tests}
 use Rattle.std.proofs.lemmas.List.{reverse-append, length-reverse}
 use Rattle.std.specs.Map.{lookup}
-use Rattle.scope_events.specs.declared.event.WordClass.{WordClass}
-use Rattle.scope_events.specs.declared.event.WordClass.TheVariants.{Value}
+use Rattle.scopes.specs.declared.table.WordClass.{WordClass}
+use Rattle.scopes.specs.declared.table.WordClass.TheVariants.{Value}
 use Rattle.scopes.specs.declared.table.Step.{Step}
 use Rattle.scopes.specs.declared.table.Step.TheVariants.{Entered, Declared}
 use Rattle.scopes.specs.Frames.{Frame, class_of, declared, undone, is_bare, steps_in}

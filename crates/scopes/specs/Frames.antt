@@ -1,8 +1,8 @@
 -- Scopes with the words that are declared in them (ISO/IEC 9899:1990, 6.1.2.1).
 use Rattle.std.specs.Prelude.{ℕ, ◌+◌, Bool, true, false, List, [], ◌∷◌, length, Option, Some, None, nat_eq, unwrap_or}
 use Rattle.std.specs.Map.{lookup}
-use Rattle.scope_events.specs.declared.event.WordClass.{WordClass}
-use Rattle.scope_events.specs.declared.event.WordClass.TheVariants.{TypeName, Value}
+use Rattle.scopes.specs.declared.table.WordClass.{WordClass}
+use Rattle.scopes.specs.declared.table.WordClass.TheVariants.{TypeName, Value}
 
 -- the declarations of a scope, the latest first: a word, by its number, and what it is declared as
 abbrev pub Frame : Type 0

@@ -1,4 +1,2 @@
 pub mod Frames
 pub mod Log
-pub mod Settling
-pub mod Steps

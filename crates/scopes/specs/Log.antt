@@ -1,8 +1,8 @@
 -- What the table of words keeps. Steps are taken from the last one on.
 use Rattle.std.specs.Prelude.{◌≡◌, ℕ, List, [], ◌∷◌, IsSome, nat_eq, unwrap_or}
 use Rattle.std.specs.Map.{lookup}
-use Rattle.scope_events.specs.declared.event.WordClass.{WordClass}
-use Rattle.scope_events.specs.declared.event.WordClass.TheVariants.{Value}
+use Rattle.scopes.specs.declared.table.WordClass.{WordClass}
+use Rattle.scopes.specs.declared.table.WordClass.TheVariants.{Value}
 use Rattle.scopes.specs.declared.table.Step.{Step}
 use Rattle.scopes.specs.declared.table.Step.TheVariants.{Entered, Declared}
 use Rattle.scopes.specs.Frames.{Frame, class_of, entered, declared}

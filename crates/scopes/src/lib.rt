@@ -2,11 +2,8 @@
 #![tactic(auto)]
 
 mod table;
-mod walk;
 
-pub use scope_events::WordClass;
-pub use table::Scopes;
-pub use walk::WalkStop;
+pub use table::{Scopes, WordClass};
 
 #[cfg(test)]
 mod tests;

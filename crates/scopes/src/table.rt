@@ -5,9 +5,16 @@ ghost use Rattle.scopes.specs.Frames.{class_of, class_named, entered, left, decl
 
 use c_tokens::{Memory, Word};
 use indexmap::IndexMap;
-use scope_events::WordClass;
 use std::alloc::Global;
 use std::marker::Model;
+
+/// What a word stands for where it is no keyword: a type (ISO/IEC 9899:1990, 6.5.6) or anything
+/// else.
+#[derive(Clone, Copy, Debug, PartialEq, Eq)]
+pub enum WordClass {
+    TypeName,
+    Value,
+}
 
 /// What happened to the scopes, with what takes it back.
 #[derive(Clone, Copy, Debug, PartialEq, Eq)]

@@ -1,8 +1,7 @@
 //! The table of words, on words by their numbers.
 
-use crate::table::Scopes;
+use crate::table::{Scopes, WordClass};
 use c_tokens::Word;
-use scope_events::WordClass;
 use std::test::Fail;
 
 fn is_type(scopes: &Scopes, word: u32) -> bool {

@@ -149,16 +149,6 @@ impl Argument {
         let form = Shared::new(alloc, ArgumentForm::One { body, span })?;
         Ok(Argument::from_form(form, kept, ends_open))
     }
-
-    /// One argument for each time that the repetition or option was read.
-    pub fn many(alloc: Global, arguments: Items<Argument>) -> Result<Argument, Memory>
-        ensures { IfOk result (λ made. made ≡ ArgumentMany arguments) }
-    {
-        let kept = together(arguments.as_slice());
-        let ends_open = false;
-        let form = Shared::new(alloc, ArgumentForm::Many(arguments))?;
-        Ok(Argument::from_form(form, kept, ends_open))
-    }
 }
 
 impl Node for Body {
@@ -216,17 +206,6 @@ impl Body {
         let form = Shared::new(alloc, BodyForm::One(tree))?;
         Ok(Body::from_form(form, kept, ends_open))
     }
-
-    /// A list of trees of one kind.
-    pub fn many(alloc: Global, kind: Kind, trees: Items<Tree>) -> Result<Body, Memory>
-        requires { every (map (is_tree_of_kind kind) trees) ≡ true }
-        ensures { IfOk result (λ made. made ≡ BodyMany kind trees) }
-    {
-        let kept = together(trees.as_slice());
-        let ends_open = false;
-        let form = Shared::new(alloc, BodyForm::Many { kind, trees })?;
-        Ok(Body::from_form(form, kept, ends_open))
-    }
 }
 
 impl Node for Tree {
@@ -274,28 +253,6 @@ impl Tree {
 
 #[tactic(auto, using(crate::proofs::MeasureViews::nodes_tree_view, crate::proofs::MeasureViews::height_tree_view, crate::proofs::MeasureViews::pure_tree_view, crate::proofs::StandingViews::valid_tree_view, crate::proofs::StandingViews::open_tree_view))]
 impl Tree {
-    /// An identifier.
-    pub fn id(alloc: Global, id: IdPart) -> Result<Tree, Memory>
-        requires { is_valid_id id ≡ true }
-        ensures { IfOk result (λ made. made ≡ IdTree id) }
-    {
-        let kept = id.kept_alone();
-        let ends_open = false;
-        let form = Shared::new(alloc, TreeForm::Id(id))?;
-        Ok(Tree::from_form(form, kept, ends_open))
-    }
-
-    /// An integer constant.
-    pub fn num(alloc: Global, num: NumPart) -> Result<Tree, Memory>
-        requires { is_valid_num num ≡ true }
-        ensures { IfOk result (λ made. made ≡ NumTree num) }
-    {
-        let kept = num.kept_alone();
-        let ends_open = false;
-        let form = Shared::new(alloc, TreeForm::Num(num))?;
-        Ok(Tree::from_form(form, kept, ends_open))
-    }
-
     /// An expression.
     pub fn exp(alloc: Global, exp: Exp) -> Result<Tree, Memory>
         ensures { IfOk result (λ made. made ≡ ExpTree exp) }
@@ -303,67 +260,6 @@ impl Tree {
         let kept = exp.kept;
         let ends_open = false;
         let form = Shared::new(alloc, TreeForm::Exp(exp))?;
-        Ok(Tree::from_form(form, kept, ends_open))
-    }
-
-    /// A statement.
-    pub fn stmt(alloc: Global, stmt: Stmt) -> Result<Tree, Memory>
-        ensures { IfOk result (λ made. made ≡ StmtTree stmt) }
-    {
-        let kept = stmt.kept;
-        let ends_open = stmt.ends_open;
-        let form = Shared::new(alloc, TreeForm::Stmt(stmt))?;
-        Ok(Tree::from_form(form, kept, ends_open))
-    }
-
-    /// A declaration.
-    pub fn decl(alloc: Global, decl: Decl) -> Result<Tree, Memory>
-        ensures { IfOk result (λ made. made ≡ DeclTree decl) }
-    {
-        let kept = decl.kept;
-        let ends_open = false;
-        let form = Shared::new(alloc, TreeForm::Decl(decl))?;
-        Ok(Tree::from_form(form, kept, ends_open))
-    }
-
-    /// An external declaration.
-    pub fn item(alloc: Global, item: Item) -> Result<Tree, Memory>
-        ensures { IfOk result (λ made. made ≡ ItemTree item) }
-    {
-        let kept = item.kept;
-        let ends_open = false;
-        let form = Shared::new(alloc, TreeForm::Item(item))?;
-        Ok(Tree::from_form(form, kept, ends_open))
-    }
-
-    /// Type specifiers and qualifiers.
-    pub fn spec(alloc: Global, specs: Specs) -> Result<Tree, Memory>
-        requires { is_spec_tree (standing_specs specs) ≡ true }
-        ensures { IfOk result (λ made. made ≡ SpecTree specs) }
-    {
-        let kept = specs.kept;
-        let ends_open = false;
-        let form = Shared::new(alloc, TreeForm::Spec(specs))?;
-        Ok(Tree::from_form(form, kept, ends_open))
-    }
-
-    /// A parameter.
-    pub fn param(alloc: Global, param: Param) -> Result<Tree, Memory>
-        ensures { IfOk result (λ made. made ≡ ParamTree param) }
-    {
-        let kept = param.kept;
-        let ends_open = false;
-        let form = Shared::new(alloc, TreeForm::Param(param))?;
-        Ok(Tree::from_form(form, kept, ends_open))
-    }
-
-    /// A declaration of members.
-    pub fn member(alloc: Global, member: Member) -> Result<Tree, Memory>
-        ensures { IfOk result (λ made. made ≡ MemberTree member) }
-    {
-        let kept = member.kept;
-        let ends_open = false;
-        let form = Shared::new(alloc, TreeForm::Member(member))?;
         Ok(Tree::from_form(form, kept, ends_open))
     }
 }

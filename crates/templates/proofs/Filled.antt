@@ -27,7 +27,7 @@ use Rattle.syntax_trees.specs.declared.plain.PlainInitDeclarator.{PlainInitDecla
 use Rattle.syntax_trees.specs.declared.plain.PlainMemberDeclarator.{PlainMemberDeclarator, roll-PlainMemberDeclarator}
 use Rattle.syntax_trees.specs.declared.plain.PlainSpecs.{PlainSpecs, roll-PlainSpecs}
 use Rattle.syntax_trees.specs.declared.plain.PlainTypeName.{PlainTypeName, roll-PlainTypeName}
-use Rattle.c_trees.specs.Calls.{ArgumentParts, BodyParts, TreeParts, argument_in_call, exp_in_arguments, exp_in_argument, exp_in_body, exp_in_tree}
+use Rattle.first_trees.specs.Calls.{ArgumentParts, BodyParts, TreeParts, argument_in_call, exp_in_arguments, exp_in_argument, exp_in_body, exp_in_tree}
 use Rattle.templates.specs.Filling.{fills, filled, called, expands, expanded}
 
 module _ (x : PlainExp) where

@@ -11,8 +11,8 @@ use Rattle.syntax_trees.specs.declared.plain.PlainTree.{PlainTree-F, out-PlainTr
 use Rattle.syntax_trees.specs.declared.plain.PlainArgument.TheViews.{rolls-Name, rolls-Int, rolls-Float, rolls-Char, rolls-Str, rolls-Index, rolls-Apply, rolls-Field, rolls-Arrow, rolls-PostInc, rolls-PostDec, rolls-PreInc, rolls-PreDec, rolls-Unary, rolls-SizeofExp, rolls-SizeofType, rolls-Cast, rolls-Binary, rolls-Conditional, rolls-Assign, rolls-Comma, rolls-ExpHole, rolls-ExpCall}
 use Rattle.syntax_trees.proofs.MeasureViews as measures
 use Rattle.syntax_trees.proofs.StandingViews as standings
-use Rattle.c_trees.specs.Built.{is_read}
-use Rattle.c_trees.specs.Calls.{ArgumentParts, BodyParts, TreeParts, argument_in_call, exp_in_arguments, exp_in_argument, exp_in_body, exp_in_tree}
+use Rattle.first_trees.specs.Built.{is_read}
+use Rattle.first_trees.specs.Calls.{ArgumentParts, BodyParts, TreeParts, argument_in_call, exp_in_arguments, exp_in_argument, exp_in_body, exp_in_tree}
 use Rattle.templates.specs.Forms.{Forms, all, other, operation, placeholder, call_of, only, forms_at_exp, forms_at_tree, forms_at_body, forms_at_argument, forms_at_call, forms_of, forms_of_tree, forms_of_body, forms_of_argument, forms_of_call}
 
 abbrev pub forms_form : ExpForm → Forms

@@ -5,9 +5,9 @@ use Rattle.syntax_trees.specs.Measures.{is_pure_exp}
 use Rattle.syntax_trees.proofs.MeasureViews.{pure_exp_view}
 use Rattle.syntax_trees.specs.declared.nodes.ExpForm.TheVariants as kExp
 use Rattle.syntax_trees.specs.declared.plain.PlainExp.{PlainExp}
-use Rattle.c_trees.specs.Built.{Built, a_name, a_constant, an_operation, a_hole, a_call}
-use Rattle.c_trees.specs.Calls.{first_call_of, first_place}
-use Rattle.c_trees.proofs.CallViews.{argument_in_first_call}
+use Rattle.first_trees.specs.Built.{Built, a_name, a_constant, an_operation, a_hole, a_call}
+use Rattle.first_trees.specs.Calls.{first_call_of, first_place}
+use Rattle.first_trees.proofs.CallViews.{argument_in_first_call}
 use Rattle.templates.specs.Filling.{filled, expanded}
 use Rattle.templates.specs.Forms.{is_plain, is_template, is_value}
 use Rattle.templates.proofs.Filled.{filled_name, filled_int, filled_binary, filled_hole, expanded_name, expanded_int, expanded_binary, expanded_call_of}

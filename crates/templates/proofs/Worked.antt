@@ -5,7 +5,7 @@ use Rattle.c_tokens.specs.declared.token.Word.{Word}
 use Rattle.syntax_trees.specs.declared.parts.BinaryOperator.TheVariants as binary
 use Rattle.syntax_trees.specs.declared.parts.UnaryOperator.TheVariants as unary
 use Rattle.syntax_trees.specs.declared.plain.PlainExp.{PlainExp, PlainExp-F}
-use Rattle.c_trees.specs.Calls.{first_place, first_result}
+use Rattle.first_trees.specs.Calls.{first_place, first_result}
 use Rattle.templates.specs.Filling.{fills}
 use Rattle.templates.specs.Forms.{Forms, other, forms_at_call, forms_at_exp}
 

@@ -22,7 +22,7 @@ use Rattle.syntax_trees.specs.declared.plain.PlainInitDeclarator.{PlainInitDecla
 use Rattle.syntax_trees.specs.declared.plain.PlainMemberDeclarator.{PlainMemberDeclarator, roll-PlainMemberDeclarator}
 use Rattle.syntax_trees.specs.declared.plain.PlainSpecs.{PlainSpecs, roll-PlainSpecs}
 use Rattle.syntax_trees.specs.declared.plain.PlainTypeName.{PlainTypeName, roll-PlainTypeName}
-use Rattle.c_trees.specs.Calls.{argument_in_call}
+use Rattle.first_trees.specs.Calls.{argument_in_call}
 
 -- one form, whose parts are filled: a placeholder is replaced by the argument
 abbrev pub fills : PlainExp → ExpParts → PlainExp

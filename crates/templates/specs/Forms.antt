@@ -5,7 +5,7 @@ use Rattle.syntax_trees.specs.declared.plain.PlainBody.{PlainBody, PlainBody-F, 
 use Rattle.syntax_trees.specs.declared.plain.PlainCall.{PlainCall, PlainCall-F, fold-PlainCall}
 use Rattle.syntax_trees.specs.declared.plain.PlainExp.{PlainExp, PlainExp-F, fold-PlainExp}
 use Rattle.syntax_trees.specs.declared.plain.PlainTree.{PlainTree, PlainTree-F, fold-PlainTree}
-use Rattle.c_trees.specs.Built.{is_read}
+use Rattle.first_trees.specs.Built.{is_read}
 
 -- Identifiers, integer constants, sums and products alone; such expressions with placeholders; and such expressions
 -- with calls of one argument that holds neither.

@@ -8,7 +8,7 @@ ghost use Rattle.templates.specs.Filling.{filled, expanded};
 ghost use Rattle.templates.specs.Forms.{is_plain, is_template, is_value};
 
 use c_tokens::Memory;
-use c_trees::{Exp, ExpForm, Node, argument_in};
+use first_trees::{Exp, ExpForm, Node, argument_in};
 use std::alloc::Global;
 
 /// The template with the argument in place of each placeholder. The template has the forms that are
@@ -40,7 +40,7 @@ pub fn fill(alloc: Global, template: &Exp, argument: &Exp) -> Result<Exp, Memory
 
 /// The expression with the filled template in place of each call. An argument is expanded before its call.
 /// The expression and the template have the forms that are read so far, and are together low enough.
-#[tactic(auto, using(crate::proofs::Filled::expand_laws, crate::proofs::FormViews::forms_view, crate::proofs::FormViews::binary_forms, crate::proofs::FormViews::forms_of_argument_in, c_trees::proofs::CallViews::argument_in_view, syntax_trees::proofs::MeasureViews::height_exp_view, syntax_trees::proofs::StandingViews::standing_exp_view, syntax_trees::proofs::SizeViews::size_exp_view))]
+#[tactic(auto, using(crate::proofs::Filled::expand_laws, crate::proofs::FormViews::forms_view, crate::proofs::FormViews::binary_forms, crate::proofs::FormViews::forms_of_argument_in, first_trees::proofs::CallViews::argument_in_view, syntax_trees::proofs::MeasureViews::height_exp_view, syntax_trees::proofs::StandingViews::standing_exp_view, syntax_trees::proofs::SizeViews::size_exp_view))]
 pub fn expand(alloc: Global, expression: &Exp, template: &Exp) -> Result<Exp, Memory>
     requires forms { is_value expression.now ≡ true }
     requires template { is_template template.now ≡ true }

@@ -1,9 +1,10 @@
 use Rattle.std.proofs.Common.{◌≡◌, ◌≢◌, ◌<◌, ◌^◌, arith, sym, ℕ, true, false, not, nat_eq, subst, bit_and, IsTrue, refl, inl, inr}
 use Rattle.std.specs.Int.{bit_at}
 use Rattle.std.proofs.lemmas.Bool.Decides.{eqb_tells}
-use Rattle.pattern_language.specs.Classes.{class_number, Meets}
+use Rattle.c_tokens.specs.ClassNumbers.{class_number}
+use Rattle.pattern_language.specs.Classes.{Meets}
 use Rattle.pattern_language.proofs.Bits.{common_bit, no_common_bit}
-use Rattle.pattern_language.proofs.Numbers.{class_of_number}
+use Rattle.c_tokens.proofs.ClassNumbers.{class_of_number}
 use Rattle.pattern_language.proofs.class_set.ClassSet.meets.Goals as goal
 
 common : (a b : ℕ) → a < 2 ^ 128 → IsTrue (not (nat_eq (bit_and a b) 0)) → Meets (λ c. nat_eq (bit_at a (class_number c)) 1) (λ c. nat_eq (bit_at b (class_number c)) 1)

@@ -1,4 +1,4 @@
-use Rattle.pattern_language.specs.Classes.{class_number}
+use Rattle.c_tokens.specs.ClassNumbers.{class_number}
 use Rattle.pattern_language.proofs.Bits.{bit_or_has}
 use Rattle.pattern_language.proofs.class_set.ClassSet.union.Goals as goal
 

@@ -1,5 +1,0 @@
-mod CodeSameViews
-mod CodeSizeViews
-mod StepsSameViews
-mod StepsSizeViews
-mod PatternSameViews

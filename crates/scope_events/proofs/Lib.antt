@@ -1,3 +1,0 @@
-mod EventViews
-mod Gathered
-mod Worked
