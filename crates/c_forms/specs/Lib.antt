@@ -1,0 +1,7 @@
+pub mod Rows
+pub mod Places
+pub mod Measures
+pub mod Forests
+pub mod Opens
+pub mod Fits
+pub mod Rules
