@@ -5,3 +5,4 @@ pub mod Forests
 pub mod Opens
 pub mod Fits
 pub mod Rules
+pub mod Tokens

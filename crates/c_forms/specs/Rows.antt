@@ -55,26 +55,26 @@ abbrev pub shown : Row → Line
 shown r = line r.role r.level r.counts r.pieces.now
 
 abbrev pub template_row : Kind → Line
-template_row kind.Id = line Prefixed 17 Nothing TEMPLATE_ID.now
-template_row kind.Num = line Prefixed 17 Nothing TEMPLATE_NUM.now
-template_row kind.Exp = line Prefixed 17 Nothing TEMPLATE_EXP.now
-template_row kind.Stmt = line Prefixed 17 Nothing TEMPLATE_STMT.now
-template_row kind.Decl = line Prefixed 17 Nothing TEMPLATE_DECL.now
-template_row kind.Item = line Prefixed 17 Nothing TEMPLATE_ITEM.now
-template_row kind.Spec = line Prefixed 17 Nothing TEMPLATE_SPEC.now
-template_row kind.Param = line Prefixed 17 Nothing TEMPLATE_PARAM.now
-template_row kind.Member = line Prefixed 17 Nothing TEMPLATE_MEMBER.now
+template_row kind.Id = line Due 17 Nothing TEMPLATE_ID.now
+template_row kind.Num = line Due 17 Nothing TEMPLATE_NUM.now
+template_row kind.Exp = line Due 17 Nothing TEMPLATE_EXP.now
+template_row kind.Stmt = line Due 17 Nothing TEMPLATE_STMT.now
+template_row kind.Decl = line Due 17 Nothing TEMPLATE_DECL.now
+template_row kind.Item = line Due 17 Nothing TEMPLATE_ITEM.now
+template_row kind.Spec = line Due 17 Nothing TEMPLATE_SPEC.now
+template_row kind.Param = line Due 17 Nothing TEMPLATE_PARAM.now
+template_row kind.Member = line Due 17 Nothing TEMPLATE_MEMBER.now
 
 abbrev pub list_template_row : Kind → Line
-list_template_row kind.Id = line Prefixed 17 Nothing TEMPLATE_IDS.now
-list_template_row kind.Num = line Prefixed 17 Nothing TEMPLATE_NUMS.now
-list_template_row kind.Exp = line Prefixed 17 Nothing TEMPLATE_EXPS.now
-list_template_row kind.Stmt = line Prefixed 17 Nothing TEMPLATE_STMTS.now
-list_template_row kind.Decl = line Prefixed 17 Nothing TEMPLATE_DECLS.now
-list_template_row kind.Item = line Prefixed 17 Nothing TEMPLATE_ITEMS.now
-list_template_row kind.Spec = line Prefixed 17 Nothing TEMPLATE_SPECS.now
-list_template_row kind.Param = line Prefixed 17 Nothing TEMPLATE_PARAMS.now
-list_template_row kind.Member = line Prefixed 17 Nothing TEMPLATE_MEMBERS.now
+list_template_row kind.Id = line Due 17 Nothing TEMPLATE_IDS.now
+list_template_row kind.Num = line Due 17 Nothing TEMPLATE_NUMS.now
+list_template_row kind.Exp = line Due 17 Nothing TEMPLATE_EXPS.now
+list_template_row kind.Stmt = line Due 17 Nothing TEMPLATE_STMTS.now
+list_template_row kind.Decl = line Due 17 Nothing TEMPLATE_DECLS.now
+list_template_row kind.Item = line Due 17 Nothing TEMPLATE_ITEMS.now
+list_template_row kind.Spec = line Due 17 Nothing TEMPLATE_SPECS.now
+list_template_row kind.Param = line Due 17 Nothing TEMPLATE_PARAMS.now
+list_template_row kind.Member = line Due 17 Nothing TEMPLATE_MEMBERS.now
 
 abbrev pub binary_row : BinaryOperator → Line
 binary_row operator.LogicalOr = line Tailed 4 SizeAndHeight BINARY_4.now
@@ -183,9 +183,9 @@ stmt_row stmt.Return = line Prefixed 17 Size RETURN.now
 abbrev pub item_row : ItemForm → Line
 item_row item.Function = line Declared 17 Size FUNCTION.now
 item_row item.Declaration = line Declared 17 Size DECLARATION.now
-item_row (item.Syntax result name) = line Prefixed 17 Size SYNTAX.now
-item_row (item.MetaFunction result name) = line Prefixed 17 Size META_FUNCTION.now
-item_row (item.MetaVariable type name) = line Prefixed 17 Size META_VARIABLE.now
+item_row (item.Syntax result name) = line Due 17 Size SYNTAX.now
+item_row (item.MetaFunction result name) = line Due 17 Size META_FUNCTION.now
+item_row (item.MetaVariable type name) = line Due 17 Size META_VARIABLE.now
 
 abbrev pub meta_exp_row : MetaExpForm → Line
 meta_exp_row (meta_exp.Int w) = line Leafed 17 Size TOKEN_META_EXP.now
@@ -221,32 +221,32 @@ element_row (element.Literal w) = line Leafed 17 Nothing ELEMENT_LITERAL.now
 element_row element.Bind = line Prefixed 17 Nothing ELEMENT_BIND.now
 element_row element.OneOrMore = line Prefixed 17 SizeAndHeight ELEMENT_ONE_OR_MORE.now
 element_row element.ZeroOrMore = line Prefixed 17 SizeAndHeight ELEMENT_ZERO_OR_MORE.now
-element_row (element.OneOrMoreBetween w) = line Prefixed 17 SizeAndHeight ELEMENT_ONE_OR_MORE_BETWEEN.now
-element_row (element.ZeroOrMoreBetween w) = line Prefixed 17 SizeAndHeight ELEMENT_ZERO_OR_MORE_BETWEEN.now
-element_row (element.Maybe w) = line Prefixed 17 SizeAndHeight ELEMENT_MAYBE.now
+element_row (element.OneOrMoreBetween w) = line Due 17 SizeAndHeight ELEMENT_ONE_OR_MORE_BETWEEN.now
+element_row (element.ZeroOrMoreBetween w) = line Due 17 SizeAndHeight ELEMENT_ZERO_OR_MORE_BETWEEN.now
+element_row (element.Maybe w) = line Due 17 SizeAndHeight ELEMENT_MAYBE.now
 
 abbrev pub hole_row : HoleForm → Line
-hole_row (hole.Variable kind is_list name) = line Prefixed 17 SizeAndHeight HOLE_VARIABLE.now
-hole_row (hole.Computed kind is_list) = if is_list then line Prefixed 17 SizeAndHeight HOLE_COMPUTED_LIST.now else line Prefixed 17 SizeAndHeight HOLE_COMPUTED.now
-hole_row (hole.Binder kind name) = line Prefixed 17 SizeAndHeight HOLE_BINDER.now
+hole_row (hole.Variable kind is_list name) = line Due 17 SizeAndHeight HOLE_VARIABLE.now
+hole_row (hole.Computed kind is_list) = if is_list then line Due 17 SizeAndHeight HOLE_COMPUTED_LIST.now else line Due 17 SizeAndHeight HOLE_COMPUTED.now
+hole_row (hole.Binder kind name) = line Due 17 SizeAndHeight HOLE_BINDER.now
 
 abbrev pub group_row : GroupForm → Line
 group_row group.List = line Bare 17 Nothing LIST.now
 group_row group.Row = line Bare 17 Nothing ROW.now
 group_row group.InitDeclarator = line Due 17 Nothing INIT_DECLARATOR.now
-group_row group.Initializer = line Prefixed 17 Nothing INITIALIZER.now
+group_row group.Initializer = line Due 17 Nothing INITIALIZER.now
 group_row group.MemberDeclarator = line Due 17 Nothing MEMBER_DECLARATOR.now
-group_row group.Width = line Prefixed 17 Nothing WIDTH.now
-group_row group.Members = line Prefixed 17 Nothing MEMBERS.now
-group_row group.Enumerators = line Prefixed 17 Nothing ENUMERATORS.now
-group_row group.EnumeratorValue = line Prefixed 17 Nothing ENUMERATOR_VALUE.now
-group_row group.ElsePart = line Prefixed 17 Nothing ELSE_PART.now
-group_row group.MetaElsePart = line Prefixed 17 Nothing META_ELSE_PART.now
-group_row (group.Assignment w) = line Marked 17 Nothing ASSIGNMENT.now
-group_row group.MetaValue = line Prefixed 17 Nothing META_VALUE.now
-group_row (group.MetaParam type name) = line Prefixed 17 Nothing META_PARAM.now
-group_row (group.Binder kind name) = line Prefixed 17 Nothing BINDER.now
-group_row group.Elements = line Prefixed 17 Nothing ELEMENTS.now
+group_row group.Width = line Due 17 Nothing WIDTH.now
+group_row group.Members = line Due 17 Nothing MEMBERS.now
+group_row group.Enumerators = line Due 17 Nothing ENUMERATORS.now
+group_row group.EnumeratorValue = line Due 17 Nothing ENUMERATOR_VALUE.now
+group_row group.ElsePart = line Due 17 Nothing ELSE_PART.now
+group_row group.MetaElsePart = line Due 17 Nothing META_ELSE_PART.now
+group_row (group.Assignment w) = line Due 17 Nothing ASSIGNMENT.now
+group_row group.MetaValue = line Due 17 Nothing META_VALUE.now
+group_row (group.MetaParam type name) = line Due 17 Nothing META_PARAM.now
+group_row (group.Binder kind name) = line Due 17 Nothing BINDER.now
+group_row group.Elements = line Due 17 Nothing ELEMENTS.now
 
 -- the row of each form
 abbrev pub row : Form → Line
@@ -268,8 +268,8 @@ row (form.Literal w) = line Leafed 17 Size LITERAL.now
 row (form.MetaExp form) = meta_exp_row form
 row (form.Template form) = template_form_row form
 row (form.MetaStmt form) = meta_stmt_row form
-row form.MetaBlock = line Prefixed 17 SizeAndHeight META_BLOCK.now
-row (form.Local type name) = line Prefixed 17 Size LOCAL.now
+row form.MetaBlock = line Due 17 SizeAndHeight META_BLOCK.now
+row (form.Local type name) = line Due 17 Size LOCAL.now
 row (form.Element form) = element_row form
 row (form.Hole form) = hole_row form
 row (form.Call number result tail) = line Carried 17 SizeAndHeight CALL.now
