@@ -6,3 +6,4 @@ pub mod Opens
 pub mod Fits
 pub mod Rules
 pub mod Tokens
+pub mod Equal

@@ -1,6 +1,7 @@
 //! What the row of a form says of a node by itself.
 
 ghost use Rattle.std.specs.Prelude.{◌≡◌, ◌≤◌};
+ghost use Rattle.c_forms.specs.Equal.{one_form};
 ghost use Rattle.c_forms.specs.Measures as measures;
 
 use crate::forms::{Form, GroupForm, MetaStmtForm, StmtForm};
@@ -42,6 +43,13 @@ impl Form {
         ensures { result.now ≡ measures.pieces self }
     {
         row(self).pieces
+    }
+
+    /// Whether two forms are equal.
+    pub fn is_same(self, other: Form) -> bool
+        ensures { result ≡ one_form self other }
+    {
+        self == other
     }
 
     /// Whether it is neither a placeholder nor a call of a macro.
