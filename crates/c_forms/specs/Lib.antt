@@ -7,3 +7,6 @@ pub mod Fits
 pub mod Rules
 pub mod Tokens
 pub mod Equal
+pub mod AllForms
+pub mod Sets
+pub mod Right

@@ -135,6 +135,7 @@ is_argument _ = false
 -- whether all that is of one sort may stand where another is due
 abbrev pub serves : Sort → Sort → Bool
 serves sort s.Exp = is_sort sort s.Exp || is_sort sort s.Num
+serves sort s.DeclaredId = is_sort sort s.Id
 serves sort s.Spec = is_sort sort s.Spec || is_sort sort s.PlainSpec || is_sort sort s.Qualifier
 serves sort s.PlainSpec = is_sort sort s.PlainSpec || is_sort sort s.Qualifier
 serves sort s.AbstractDeclarator = is_sort sort s.Declarator

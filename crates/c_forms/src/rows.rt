@@ -161,8 +161,10 @@ fn spec_row(form: SpecForm) -> Row
     ensures { shown result ≡ rows.spec_row form }
 {
     match form {
-        SpecForm::Storage(_) | SpecForm::Qualifier(_) | SpecForm::Basic(_) | SpecForm::Typedef(_) =>
-            of(Leafed, 17, Size, TOKEN_SPEC),
+        SpecForm::Storage(_) | SpecForm::Qualifier(_) | SpecForm::Basic(_) => of(
+            Leafed, 17, Size, TOKEN_SPEC,
+        ),
+        SpecForm::Typedef(_) => of(Due, 17, Size, TYPEDEF_NAME),
         SpecForm::StructOf(_) => of(Prefixed, 17, SizeAndHeight, STRUCT_OF),
         SpecForm::EnumOf => of(Prefixed, 17, SizeAndHeight, ENUM_OF),
     }
@@ -303,15 +305,15 @@ fn hole_row(form: HoleForm) -> Row
     ensures { shown result ≡ rows.hole_row form }
 {
     match form {
-        HoleForm::Variable { .. } => of(Due, 17, SizeAndHeight, HOLE_VARIABLE),
+        HoleForm::Variable { .. } => of(Carried, 17, SizeAndHeight, HOLE_VARIABLE),
         HoleForm::Computed { is_list, .. } => {
             if is_list {
-                of(Due, 17, SizeAndHeight, HOLE_COMPUTED_LIST)
+                of(Carried, 17, SizeAndHeight, HOLE_COMPUTED_LIST)
             } else {
-                of(Due, 17, SizeAndHeight, HOLE_COMPUTED)
+                of(Carried, 17, SizeAndHeight, HOLE_COMPUTED)
             }
         }
-        HoleForm::Binder { .. } => of(Due, 17, SizeAndHeight, HOLE_BINDER),
+        HoleForm::Binder { .. } => of(Carried, 17, SizeAndHeight, HOLE_BINDER),
     }
 }
 
@@ -356,8 +358,8 @@ pub fn row(form: Form) -> Row
         Form::Decl => of(Declared, 17, Size, DECL),
         Form::Stmt(form) => stmt_row(form),
         Form::Item(form) => item_row(form),
-        Form::Id(_) => of(Leafed, 17, Nothing, PART_TOKEN),
-        Form::Literal(_) => of(Leafed, 17, Size, LITERAL),
+        Form::Id(_) => of(Due, 17, Nothing, PART_TOKEN),
+        Form::Literal(_) => of(Due, 17, Size, LITERAL),
         Form::MetaExp(form) => meta_exp_row(form),
         Form::Template(form) => template_form_row(form),
         Form::MetaStmt(form) => meta_stmt_row(form),
