@@ -3,6 +3,7 @@
 
 mod checked;
 mod fits;
+mod handles;
 mod opens;
 mod parts;
 mod rules;
@@ -10,6 +11,7 @@ mod same;
 mod tree;
 
 pub use checked::TreeStop;
+pub use handles::{Exp, Item, Stmt};
 pub use opens::ends_open;
 pub use parts::Parts;
 pub use rules::broken_rule;
