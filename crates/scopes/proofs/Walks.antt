@@ -1,5 +1,9 @@
 -- How walks through events are put together, and how they are taken back.
-use Rattle.std.proofs.Common.{◌≡◌, refl, ap, sym, subst, ◌∙◌, ℕ, zero, suc, ◌+◌, ◌<◌, ◌≤◌, Bool, true, false, List, [], ◌∷◌, ◌++◌, length, arith, if◌then◌else◌, Result, Ok, Err}
+use Rattle.std.proofs.Common.{◌≡◌, refl, ap, sym, subst, ◌∙◌, ℕ, zero, suc, ◌+◌, ◌<◌, ◌≤◌, Bool, true, false, List, [], ◌∷◌, ◌++◌, length, drop, get_or, drop-cons, arith, if◌then◌else◌, Option, Result, Ok, Err}
+use Rattle.std.specs.Result.{IsErrAnd}
+use Rattle.std.proofs.lemmas.Result.{err_from_is_err_and}
+use Rattle.c_forms.specs.declared.forms.Form.{Form}
+use Rattle.c_forms.specs.Forests.{Plain, Forest, forest}
 use Rattle.c_tokens.specs.declared.span.Span.{Span}
 use Rattle.c_tokens.specs.declared.token.Word.{Word}
 use Rattle.scopes.specs.declared.event.Event.{Event}
@@ -8,7 +12,10 @@ use Rattle.scopes.specs.declared.table.WordClass.{WordClass}
 use Rattle.scopes.specs.declared.walk.WalkStop.{WalkStop}
 use Rattle.scopes.specs.declared.walk.WalkStop.TheVariants.{Clash, Memory}
 use Rattle.scopes.specs.Frames.{Frame, class_of, entered, left, declared, undone, steps_in}
-use Rattle.scopes.specs.Events.{scope}
+use Rattle.scopes.specs.declared.event.NameUse.{NameUse}
+use Rattle.scopes.specs.declared.event.Meaning.TheVariants as means
+use Rattle.scopes.specs.Meanings.{meaning, inside, declares, name_in}
+use Rattle.scopes.specs.Events.{scope, in_order, declared_as, words, words_by, words_of, by_meaning, each, events_of}
 use Rattle.scopes.specs.Settling.{Settled, Scoped, Clashes, settled, is_same, Stops}
 use Rattle.scopes.specs.Steps.{undone_by, IsLater, Goes, IsUnderWay}
 
@@ -109,26 +116,26 @@ later_left old ((d ∷ frame) ∷ outer) deep h =
 
 -- walks
 
-pub goes_nowhere : {T : Type 0} (x : T) (frames : List Frame) → Goes (Ok x) [] frames frames
+pub goes_nowhere : (x : Unit {0}) (frames : List Frame) → Goes (Ok x) [] frames frames
 goes_nowhere x frames = record { ok = refl; level = refl; stop = tt; later = later_same frames }
 
 -- memory may be wanting before the first event
-pub goes_without : {T : Type 0} (events : List Event) (old now : List Frame) → now ≡ old → Goes {T = T} (Err Memory) events old now
+pub goes_without : (events : List Event) (old now : List Frame) → now ≡ old → Goes (Err Memory) events old now
 goes_without events old now e = record { ok = tt; level = tt; stop = tt; later = subst (λ frames. IsLater old frames) (sym e) (later_same old) }
 
-pub goes_stops : {T U : Type 0} (stop : WalkStop) (xs ys : List Event) (old now : List Frame) → Goes {T = T} (Err stop) xs old now → Goes {T = U} (Err stop) (xs ++ ys) old now
-goes_stops stop xs ys old now h = record { ok = tt; level = tt; stop = stops-append stop xs ys old h.stop; later = h.later }
+pub goes_stops : {stop : WalkStop} {xs : List Event} {old now : List Frame} (ys : List Event) → Goes (Err stop) xs old now → Goes (Err stop) (xs ++ ys) old now
+goes_stops {stop = stop} {xs = xs} {old = old} ys h = record { ok = tt; level = tt; stop = stops-append stop xs ys old h.stop; later = h.later }
 
-pub goes_both : {T U : Type 0} (x : T) (r : Result U WalkStop) (xs ys : List Event) (old mid now : List Frame) → Goes (Ok x) xs old mid → Goes r ys mid now → Goes r (xs ++ ys) old now
-goes_both x (Ok y) xs ys old mid now h k = record { ok = settled-append xs ys old mid h.ok ∙ k.ok; level = k.level ∙ h.level; stop = tt; later = later_still old mid now h.later k.later }
-goes_both x (Err stop) xs ys old mid now h k = record { ok = tt; level = tt; stop = subst (λ answer. Stops stop answer) (sym (settled-append xs ys old mid h.ok)) k.stop; later = later_still old mid now h.later k.later }
+pub goes_both : {x : Unit {0}} {r : Result (Unit {0}) WalkStop} {xs ys : List Event} {old mid now : List Frame} → Goes (Ok x) xs old mid → Goes r ys mid now → Goes r (xs ++ ys) old now
+goes_both {r = Ok y} {xs = xs} {ys = ys} {old = old} {mid = mid} {now = now} h k = record { ok = settled-append xs ys old mid h.ok ∙ k.ok; level = k.level ∙ h.level; stop = tt; later = later_still old mid now h.later k.later }
+goes_both {r = Err stop} {xs = xs} {ys = ys} {old = old} {mid = mid} {now = now} h k = record { ok = tt; level = tt; stop = subst (λ answer. Stops stop answer) (sym (settled-append xs ys old mid h.ok)) k.stop; later = later_still old mid now h.later k.later }
 
 length_left : (frames : List Frame) (n : ℕ) → length frames ≡ suc n → length (left frames) ≡ n
 length_left [] n e = absurd (omega arith)
 length_left (frame ∷ outer) n e = omega arith
 
-pub goes_scope : {T U : Type 0} (x : T) (y : U) (inner : List Event) (old begun mid now : List Frame) → 0 < length old → begun ≡ entered old → Goes (Ok x) inner begun mid → now ≡ left mid → Goes (Ok y) (scope inner) old now
-goes_scope x y inner old begun mid now deep e h f = record {
+pub goes_scope : {x : Unit {0}} {inner : List Event} {old begun mid now : List Frame} (y : Unit {0}) → 0 < length old → begun ≡ entered old → Goes (Ok x) inner begun mid → now ≡ left mid → Goes (Ok y) (scope inner) old now
+goes_scope {inner = inner} {old = old} {mid = mid} y deep e h f = record {
   ok = settled-append inner (Leave ∷ []) (entered old) mid (subst (λ frames. settled inner frames ≡ Scoped mid) e h.ok) ∙ ap Scoped (sym f);
   level = ap length f ∙ length_left mid (length old) (h.level ∙ ap length e);
   stop = tt;
@@ -138,8 +145,8 @@ goes_scope x y inner old begun mid now deep e h f = record {
       (later_still old (entered old) mid (later_entered old deep) (subst (λ frames. IsLater frames mid) e h.later)));
 }
 
-pub goes_into : {T U : Type 0} (stop : WalkStop) (inner : List Event) (old begun now : List Frame) → 0 < length old → begun ≡ entered old → Goes {T = T} (Err stop) inner begun now → Goes {T = U} (Err stop) (scope inner) old now
-goes_into stop inner old begun now deep e h = record {
+pub goes_into : {stop : WalkStop} {inner : List Event} {old begun now : List Frame} → 0 < length old → begun ≡ entered old → Goes (Err stop) inner begun now → Goes (Err stop) (scope inner) old now
+goes_into {stop = stop} {inner = inner} {old = old} {now = now} deep e h = record {
   ok = tt;
   level = tt;
   stop = stops-append stop inner (Leave ∷ []) (entered old) (subst (λ frames. Stops stop (settled inner frames)) e h.stop);
@@ -150,7 +157,7 @@ length_declared : (word : ℕ) (class : WordClass) (frames : List Frame) → len
 length_declared word class [] = refl
 length_declared word class (frame ∷ outer) = refl
 
-pub goes_declared : {T : Type 0} (x : T) (word : Word) (class : WordClass) (old now : List Frame) → 0 < length old → now ≡ declared word.0 class old → Goes (Ok x) (Declare word class ∷ []) old now
+pub goes_declared : (x : Unit {0}) (word : Word) (class : WordClass) (old now : List Frame) → 0 < length old → now ≡ declared word.0 class old → Goes (Ok x) (Declare word class ∷ []) old now
 goes_declared x word class old now deep e = record {
   ok = ap Scoped (sym e);
   level = ap length e ∙ length_declared word.0 class old;
@@ -158,7 +165,7 @@ goes_declared x word class old now deep e = record {
   later = subst (λ frames. IsLater old frames) (sym e) (later_declared old word.0 class deep);
 }
 
-pub goes_met : {T : Type 0} (x : T) (word : Word) (wanted : WordClass) (span : Span) (frames : List Frame) → is_same wanted (class_of word.0 frames) ≡ true → Goes (Ok x) (Must word wanted span ∷ []) frames frames
+pub goes_met : (x : Unit {0}) (word : Word) (wanted : WordClass) (span : Span) (frames : List Frame) → is_same wanted (class_of word.0 frames) ≡ true → Goes (Ok x) (Must word wanted span ∷ []) frames frames
 goes_met x word wanted span frames e = record {
   ok = ap (λ b. if b then Scoped frames else Clashes word wanted (class_of word.0 frames) span) e;
   level = refl;
@@ -166,7 +173,7 @@ goes_met x word wanted span frames e = record {
   later = later_same frames;
 }
 
-pub goes_clashes : {T : Type 0} (word : Word) (wanted found : WordClass) (span : Span) (frames : List Frame) → found ≡ class_of word.0 frames → is_same wanted (class_of word.0 frames) ≡ false → Goes {T = T} (Err (Clash word wanted found span)) (Must word wanted span ∷ []) frames frames
+pub goes_clashes : (word : Word) (wanted found : WordClass) (span : Span) (frames : List Frame) → found ≡ class_of word.0 frames → is_same wanted (class_of word.0 frames) ≡ false → Goes (Err (Clash word wanted found span)) (Must word wanted span ∷ []) frames frames
 goes_clashes word wanted found span frames was e = record {
   ok = tt;
   level = tt;
@@ -179,16 +186,54 @@ goes_clashes word wanted found span frames was e = record {
 pub under_way : (old : List Frame) (all : List Event) → IsUnderWay old old all all
 under_way old all = record { same = refl; level = refl; later = later_same old }
 
-pub further : {T : Type 0} (x : T) (old mid now : List Frame) (all here others : List Event) → IsUnderWay old mid all (here ++ others) → Goes (Ok x) here mid now → IsUnderWay old now all others
-further x old mid now all here others h k = record { same = sym (settled-append here others mid now k.ok) ∙ h.same; level = k.level ∙ h.level; later = later_still old mid now h.later k.later }
+pub further : {x : Unit {0}} {old mid now : List Frame} {all here : List Event} (others : List Event) → Goes (Ok x) here mid now → IsUnderWay old mid all (here ++ others) → IsUnderWay old now all others
+further {old = old} {mid = mid} {now = now} {here = here} others k h = record { same = sym (settled-append here others mid now k.ok) ∙ h.same; level = k.level ∙ h.level; later = later_still old mid now h.later k.later }
 
-pub stops_there : {T U : Type 0} (stop : WalkStop) (old mid now : List Frame) (all here others : List Event) → IsUnderWay old mid all (here ++ others) → Goes {T = T} (Err stop) here mid now → Goes {T = U} (Err stop) all old now
-stops_there stop old mid now all here others h k = record {
+pub stops_there : {stop : WalkStop} {old mid now : List Frame} {all here : List Event} (others : List Event) → Goes (Err stop) here mid now → IsUnderWay old mid all (here ++ others) → Goes (Err stop) all old now
+stops_there {stop = stop} {old = old} {mid = mid} {now = now} {here = here} others k h = record {
   ok = tt;
   level = tt;
   stop = subst (λ answer. Stops stop answer) h.same (stops-append stop here others mid k.stop);
   later = later_still old mid now h.later k.later;
 }
 
-pub all_gone : {T : Type 0} (x : T) (old now : List Frame) (all : List Event) → IsUnderWay old now all [] → Goes (Ok x) all old now
+pub all_gone : (x : Unit {0}) (old now : List Frame) (all : List Event) → IsUnderWay old now all [] → Goes (Ok x) all old now
 all_gone x old now all h = record { ok = sym h.same; level = h.level; stop = tt; later = h.later }
+
+pub forest_next : (trees : List Plain) (at : ℕ) (here : Plain) → at < length trees → here ≡ get_or trees at here → forest (drop at trees) ≡ forest (here ∷ drop (at + 1) trees)
+forest_next trees at here lt is =
+    ap forest (drop-cons trees at here lt ∙ ap (λ t. t ∷ drop (suc at) trees) (sym is) ∙ ap (λ n. here ∷ drop n trees) (let e : suc at ≡ at + 1 = omega arith in e))
+
+-- a call that stopped ends its caller
+pub goes_out : {r : Result (Unit {0}) WalkStop} {stop : WalkStop} {events : List Event} {old now : List Frame} → IsErrAnd r (λ e. e ≡ stop) → Goes (Err stop) events old now → Goes r events old now
+goes_out {r = r} {events = events} {old = old} {now = now} out h =
+    let p = err_from_is_err_and r out in
+    subst (λ s. Goes s events old now) (sym p.1) (subst (λ e. Goes (Err e) events old now) (sym p.2) (record { ok = tt; level = tt; stop = h.stop; later = h.later }))
+
+-- a node that means what its parts mean
+
+walked_is : (used : NameUse) (f : Form) (s : Span) (ps : Forest) (inner : NameUse) (class : Option WordClass) → means.Parts ≡ meaning f → inner ≡ inside f used ps → class ≡ declares f used
+    → in_order (each inner ps) ++ declared_as class (name_in ps) ≡ events_of used (record { form = f; span = s; parts = ps })
+walked_is used f s ps inner class m i d =
+    ap (λ k. in_order (each inner ps) ++ declared_as k (name_in ps)) d ∙ ap (λ k. in_order (each k ps) ++ declared_as (declares f used) (name_in ps)) i
+    ∙ ap (λ k. by_meaning k used (declares f used) s ps (each (inside f used ps) ps)) m
+
+redeclared_is : (used : NameUse) (f : Form) (s : Span) (ps : Forest) (inner : NameUse) (class : Option WordClass) → means.Parts ≡ meaning f → inner ≡ inside f used ps → class ≡ declares f used
+    → words inner ps ++ declared_as class (name_in ps) ≡ words_of used (record { form = f; span = s; parts = ps })
+redeclared_is used f s ps inner class m i d =
+    ap (λ k. words inner ps ++ declared_as k (name_in ps)) d ∙ ap (λ k. words k ps ++ declared_as (declares f used) (name_in ps)) i
+    ∙ ap (λ k. words_by k used (declares f used) ps (words (inside f used ps) ps)) m
+
+same_tree : (t : Plain) (f : Form) (ps : Forest) → f ≡ t.form → ps ≡ t.parts → (events : Plain → List Event) → events (record { form = f; span = t.span; parts = ps }) ≡ events t
+same_tree t f ps e h events = ap (λ k. events (record { form = k; span = t.span; parts = ps })) e ∙ ap (λ k. events (record { form = t.form; span = t.span; parts = k })) h
+
+pub walked_parts : (used : NameUse) (t : Plain) (f : Form) (ps : Forest) (inner : NameUse) (class : Option WordClass) → f ≡ t.form → ps ≡ t.parts → means.Parts ≡ meaning f → inner ≡ inside f used ps → class ≡ declares f used
+    → in_order (each inner ps) ++ declared_as class (name_in ps) ≡ events_of used t
+walked_parts used t f ps inner class e h m i d = walked_is used f t.span ps inner class m i d ∙ same_tree t f ps e h (events_of used)
+
+pub redeclared_parts : (used : NameUse) (t : Plain) (f : Form) (ps : Forest) (inner : NameUse) (class : Option WordClass) → f ≡ t.form → ps ≡ t.parts → means.Parts ≡ meaning f → inner ≡ inside f used ps → class ≡ declares f used
+    → words inner ps ++ declared_as class (name_in ps) ≡ words_of used t
+redeclared_parts used t f ps inner class e h m i d = redeclared_is used f t.span ps inner class m i d ∙ same_tree t f ps e h (words_of used)
+
+pub goes_along : {r : Result (Unit {0}) WalkStop} {xs ys : List Event} {old now : List Frame} → xs ≡ ys → Goes r xs old now → Goes r ys old now
+goes_along {r = r} {old = old} {now = now} e h = subst (λ events. Goes r events old now) e h

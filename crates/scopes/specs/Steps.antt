@@ -16,7 +16,7 @@ pub record IsLater (old now : List Frame) : Type 0 where
   pub back : undone_by count now ≡ old
 
 -- a walk through events goes on from some scopes to others, or stops on the way there
-pub record Goes {T : Type 0} (result : Result T WalkStop) (events : List Event) (old now : List Frame) : Type 0 where
+pub record Goes (result : Result (Unit {0}) WalkStop) (events : List Event) (old now : List Frame) : Type 0 where
   pub ok : OnOk result (settled events old ≡ Scoped now)
   pub level : OnOk result (length now ≡ length old)
   pub stop : IfErr result (λ stop. Stops stop (settled events old))

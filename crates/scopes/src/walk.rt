@@ -65,16 +65,18 @@ impl Scopes {
         requires { 0 < length self.old }
         ensures { Goes result (events.events_of used tree.now) self.old self.new }
     {
-        let inner = inside(tree.form(), used, tree.parts());
-        match meaning(tree.form()) {
+        let form = tree.form();
+        let parts = tree.parts();
+        let inner = inside(form, used, parts);
+        match meaning(form) {
             Meaning::Nothing => Ok(()),
             Meaning::Use { word, wanted } => self.must(word, wanted, tree.span()),
             Meaning::Identifier(word) => self.meet(word, used, tree.span()),
-            Meaning::Scope => self.walk_scope(tree.parts(), inner),
-            Meaning::Function => self.walk_function(tree.parts(), inner),
+            Meaning::Scope => self.walk_scope(parts, inner),
+            Meaning::Function => self.walk_function(parts, inner),
             Meaning::Parts => {
-                self.walk_all(tree.parts(), inner)?;
-                self.declare_as(declares(tree.form(), used), tree.parts())
+                self.walk_all(parts, inner)?;
+                self.declare_as(declares(form, used), parts)
             }
         }
     }
@@ -209,12 +211,13 @@ impl Scopes {
         requires { 0 < length self.old }
         ensures { Goes result (events.words_of used tree.now) self.old self.new }
     {
-        let inner = inside(tree.form(), used, tree.parts());
-        match meaning(tree.form()) {
+        let form = tree.form();
+        let parts = tree.parts();
+        match meaning(form) {
             Meaning::Identifier(word) => self.redeclare_word(word, used),
             Meaning::Parts => {
-                self.redeclare(tree.parts(), inner)?;
-                self.declare_as(declares(tree.form(), used), tree.parts())
+                self.redeclare(parts, inside(form, used, parts))?;
+                self.declare_as(declares(form, used), parts)
             }
             _ => Ok(()),
         }
