@@ -15,7 +15,10 @@ use Rattle.scopes.specs.Frames.{Frame, class_of, entered, left, declared, undone
 use Rattle.scopes.specs.declared.event.NameUse.{NameUse}
 use Rattle.scopes.specs.declared.event.Meaning.TheVariants as means
 use Rattle.scopes.specs.Meanings.{meaning, inside, declares, name_in}
-use Rattle.scopes.specs.Events.{scope, in_order, declared_as, words, words_by, words_of, by_meaning, each, events_of}
+use Rattle.scopes.specs.Events.{scope, in_order, declared_as, words, words_by, words_of, by_meaning, each, events_of, name_checked, body, function}
+use Rattle.scopes.specs.Events as events
+use Rattle.scopes.specs.declared.event.Name.{Name}
+use Rattle.scopes.specs.declared.table.WordClass.TheVariants.{Value}
 use Rattle.scopes.specs.Settling.{Settled, Scoped, Clashes, settled, is_same, Stops}
 use Rattle.scopes.specs.Steps.{undone_by, IsLater, Goes, IsUnderWay}
 
@@ -237,3 +240,10 @@ redeclared_parts used t f ps inner class e h m i d = redeclared_is used f t.span
 
 pub goes_along : {r : Result (Unit {0}) WalkStop} {xs ys : List Event} {old now : List Frame} → xs ≡ ys → Goes r xs old now → Goes r ys old now
 goes_along {r = r} {old = old} {now = now} e h = subst (λ events. Goes r events old now) e h
+
+-- a function definition by its parts
+pub function_is : (used : NameUse) (parts others last : List Plain) (specs declarator : Plain) (name : Option Name) → parts ≡ specs ∷ others → others ≡ declarator ∷ last → name ≡ name_in (forest parts)
+    → events_of used specs ++ (name_checked (forest parts) ++ (events_of used declarator ++ (events.declared Value name ++ body (forest parts) (each used (forest last))))) ≡ function (forest parts) (each used (forest parts))
+function_is used parts others last specs declarator name e f g =
+    ap (λ n. events_of used specs ++ (name_checked (forest parts) ++ (events_of used declarator ++ (events.declared Value n ++ body (forest parts) (each used (forest last)))))) g
+    ∙ sym (ap (λ l. function (forest parts) (each used (forest l))) (e ∙ ap (λ l. specs ∷ l) f))

@@ -86,10 +86,14 @@ beside_name (tree f s ps rest) = beside_at f ps (beside_name ps) ++ beside_name 
 abbrev pub body : Forest → List (List Event) → List Event
 body ps others = scope (beside_name ps ++ in_order others)
 
+-- where its specifiers hold no type, the name of a function must be a value
+abbrev pub name_checked : Forest → List Event
+name_checked ps = if has_type (in_first ps) then [] else checked (name_in ps)
+
 -- a function definition, by the events of each of its parts: specifiers, a declarator, declarations and a block
 abbrev pub function : Forest → List (List Event) → List Event
 function ps (specs ∷ declarator ∷ others) =
-    specs ++ ((if has_type (in_first ps) then [] else checked (name_in ps)) ++ (declarator ++ (declared Value (name_in ps) ++ body ps others)))
+    specs ++ (name_checked ps ++ (declarator ++ (declared Value (name_in ps) ++ body ps others)))
 function ps _ = []
 
 abbrev pub by_meaning : Meaning → NameUse → Option WordClass → Span → Forest → List (List Event) → List Event

@@ -2,7 +2,7 @@
 
 ghost use Rattle.std.specs.Prelude.{◌≡◌, ◌<◌, [], ◌∷◌, List, length, OnOk, OnErr, IfErr, if◌then◌else◌};
 ghost use Rattle.c_forms.specs.Forests.{forest};
-ghost use Rattle.c_forms.specs.Rules.{after_first, in_first};
+ghost use Rattle.c_forms.specs.Rules.{after_first};
 ghost use Rattle.scopes.specs.declared.event.Event.TheVariants as event;
 ghost use Rattle.scopes.specs.Events as events;
 ghost use Rattle.scopes.specs.Frames.{Frame, entered, steps_in};
@@ -262,7 +262,7 @@ impl Scopes {
 
     /// The name of a function, which must be a value where its specifiers hold no type.
     fn check_name(&self, parts: &[Tree]) -> Result<(), WalkStop>
-        ensures { Goes result (if meanings.has_type (in_first (forest parts.now)) then [] else events.checked (meanings.name_in (forest parts.now))) self.now self.now }
+        ensures { Goes result (events.name_checked (forest parts.now)) self.now self.now }
     {
         if is_typed(parts) {
             return Ok(());

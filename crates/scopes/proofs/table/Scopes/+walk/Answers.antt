@@ -3,7 +3,7 @@ use Rattle.c_forms.specs.Forests.{forest}
 use Rattle.scopes.specs.Meanings.{declares, name_in}
 use Rattle.scopes.specs.Events.{declared_as, in_order, each}
 use Rattle.scopes.specs.Steps.{IsUnderWay}
-use Rattle.scopes.proofs.Walks.{forest_next, further, stops_there, goes_out, goes_both, goes_stops, goes_along, goes_scope, goes_into, walked_parts}
+use Rattle.scopes.proofs.Walks.{forest_next, further, stops_there, goes_out, goes_both, goes_stops, goes_along, goes_scope, goes_into, walked_parts, function_is}
 use Rattle.scopes.proofs.table.Scopes.+walk.Goals as goal
 
 pub walk-returns-in_err-walk_all-in-Parts : goal.walk-returns-in_err-walk_all-in-Parts
@@ -44,5 +44,31 @@ walk_body-returns-in_err-redeclare_beside t c =
 pub walk_body-returns-in_err-walk_all : goal.walk_body-returns-in_err-walk_all
 walk_body-returns-in_err-walk_all t c = goes_out c.from_residual-in_err-walk_all.ensures.1 (goes_into c.requires c.in_ok-begin.ensures.ok (goes_both c.in_ok-redeclare_beside.ensures c.in_err-walk_all.ensures))
 
+pub walk_function-returns-in_err-walk : goal.walk_function-returns-in_err-walk
+walk_function-returns-in_err-walk t c =
+    goes_out c.from_residual.ensures.1
+    (goes_along (function_is c.args.used c.args.parts.now c.in-Some.others.now c.in-Some-split_first.others.now c.in-Some.specs.now c.in-Some-split_first.declarator.now (name_in (forest c.args.parts.now)) c.in-Some.ensures.cases.0 c.in-Some-split_first.ensures.cases.0 refl)
+    (goes_stops _ c.in_err-walk.ensures))
+
+pub walk_function-returns-in_err-check_name : goal.walk_function-returns-in_err-check_name
+walk_function-returns-in_err-check_name t c =
+    goes_out c.from_residual-in_err-check_name.ensures.1
+    (goes_along (function_is c.args.used c.args.parts.now c.in-Some.others.now c.in-Some-split_first.others.now c.in-Some.specs.now c.in-Some-split_first.declarator.now (name_in (forest c.args.parts.now)) c.in-Some.ensures.cases.0 c.in-Some-split_first.ensures.cases.0 refl)
+    (goes_both c.in_ok-walk.ensures (goes_stops _ c.in_err-check_name.ensures)))
+
+pub walk_function-returns-in_err-walk-2 : goal.walk_function-returns-in_err-walk-2
+walk_function-returns-in_err-walk-2 t c =
+    goes_out c.from_residual-in_err-walk-2.ensures.1
+    (goes_along (function_is c.args.used c.args.parts.now c.in-Some.others.now c.in-Some-split_first.others.now c.in-Some.specs.now c.in-Some-split_first.declarator.now (name_in (forest c.args.parts.now)) c.in-Some.ensures.cases.0 c.in-Some-split_first.ensures.cases.0 refl)
+    (goes_both c.in_ok-walk.ensures (goes_both c.in_ok-check_name.ensures (goes_stops _ c.in_err-walk-2.ensures))))
+
+pub walk_function-returns-in_err-declare_name : goal.walk_function-returns-in_err-declare_name
+walk_function-returns-in_err-declare_name t c =
+    goes_out c.from_residual-in_err-declare_name.ensures.1
+    (goes_along (function_is c.args.used c.args.parts.now c.in-Some.others.now c.in-Some-split_first.others.now c.in-Some.specs.now c.in-Some-split_first.declarator.now c.name_in.result c.in-Some.ensures.cases.0 c.in-Some-split_first.ensures.cases.0 c.name_in.ensures)
+    (goes_both c.in_ok-walk.ensures (goes_both c.in_ok-check_name.ensures (goes_both c.in_ok-walk-2.ensures (goes_stops _ c.in_err-declare_name.ensures)))))
+
 pub walk_function-returns : goal.walk_function-returns
-walk_function-returns t c = ?
+walk_function-returns t c =
+    goes_along (function_is c.args.used c.args.parts.now c.in-Some.others.now c.in-Some-split_first.others.now c.in-Some.specs.now c.in-Some-split_first.declarator.now c.name_in.result c.in-Some.ensures.cases.0 c.in-Some-split_first.ensures.cases.0 c.name_in.ensures)
+    (goes_both c.in_ok-walk.ensures (goes_both c.in_ok-check_name.ensures (goes_both c.in_ok-walk-2.ensures (goes_both c.in_ok-declare_name.ensures c.walk_body.ensures))))
