@@ -4,8 +4,6 @@ use Rattle.c_tokens.specs.declared.span.Span.{Span}
 use Rattle.c_tokens.specs.declared.token.Word.{Word}
 use Rattle.c_tokens.specs.declared.kind.Kind.TheVariants as kind
 use Rattle.c_tokens.specs.declared.kind.Base.TheVariants as base
-use Rattle.c_tokens.specs.declared.kind.MetaType.{MetaType}
-use Rattle.c_tokens.specs.declared.kind.MacroNo.{MacroNo}
 use Rattle.c_forms.specs.declared.operators.StorageClass.TheVariants as storage
 use Rattle.c_forms.specs.declared.operators.TypeQualifier.TheVariants as qualifier
 use Rattle.c_forms.specs.declared.operators.BasicType.TheVariants as basic
@@ -252,7 +250,7 @@ old_style = refl
 
 -- `int f(enum { x } a, int (*g)(int b)) { x; }`
 inner_parameter_stays_inside : events
-      (function (int ∷ []) (function_of (named f) (typed (param (enum_of (enumerator x [] ∷ []) ∷ []) (named a) ∷ param (int ∷ []) (function_of (pointer (named g)) (typed (param (int ∷ []) (named b) ∷ []))) ∷ []))) [] (express (name x) ∷ []))
+    (function (int ∷ []) (function_of (named f) (typed (param (enum_of (enumerator x [] ∷ []) ∷ []) (named a) ∷ param (int ∷ []) (function_of (pointer (named g)) (typed (param (int ∷ []) (named b) ∷ []))) ∷ []))) [] (express (name x) ∷ []))
     ≡ Enter ∷ Declare x Value ∷ Declare a Value ∷ Enter ∷ Declare b Value ∷ Leave ∷ Declare g Value ∷ Leave ∷ Declare f Value
     ∷ Enter ∷ Declare x Value ∷ Declare a Value ∷ Declare g Value ∷ Enter ∷ Must x Value place ∷ Leave ∷ Leave ∷ []
 inner_parameter_stays_inside = refl
