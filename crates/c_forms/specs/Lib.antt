@@ -5,3 +5,8 @@ pub mod Forests
 pub mod Opens
 pub mod Fits
 pub mod Rules
+pub mod Tokens
+pub mod Equal
+pub mod AllForms
+pub mod Sets
+pub mod Right

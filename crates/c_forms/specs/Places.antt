@@ -129,12 +129,14 @@ is_argument s.Item = true
 is_argument s.Specs = true
 is_argument s.Param = true
 is_argument s.Member = true
+is_argument s.List = true
 is_argument s.Row = true
 is_argument _ = false
 
 -- whether all that is of one sort may stand where another is due
 abbrev pub serves : Sort → Sort → Bool
 serves sort s.Exp = is_sort sort s.Exp || is_sort sort s.Num
+serves sort s.DeclaredId = is_sort sort s.Id
 serves sort s.Spec = is_sort sort s.Spec || is_sort sort s.PlainSpec || is_sort sort s.Qualifier
 serves sort s.PlainSpec = is_sort sort s.PlainSpec || is_sort sort s.Qualifier
 serves sort s.AbstractDeclarator = is_sort sort s.Declarator

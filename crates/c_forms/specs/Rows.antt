@@ -39,7 +39,7 @@ use Rattle.c_forms.specs.declared.forms.GroupForm.{GroupForm}
 use Rattle.c_forms.specs.declared.forms.GroupForm.TheVariants as group
 use Rattle.c_forms.specs.declared.forms.Form.{Form}
 use Rattle.c_forms.specs.declared.forms.Form.TheVariants as form
-use Rattle.c_forms.specs.declared.table.TheConstants.{TOKEN_EXP, STR, INDEX, APPLY, FIELD, ARROW_OF, POST_INC, POST_DEC, PRE_INC, PRE_DEC, UNARY, SIZEOF_EXP, SIZEOF_TYPE, CAST, BINARY_13, BINARY_12, BINARY_11, BINARY_10, BINARY_9, BINARY_8, BINARY_7, BINARY_6, BINARY_5, BINARY_4, CONDITIONAL, ASSIGN, COMMA_OF, TYPE_NAME, SPECS, TOKEN_SPEC, STRUCT_OF, ENUM_OF, MEMBERS, MEMBER, MEMBER_DECLARATOR, WIDTH, ENUMERATORS, ENUMERATOR, ENUMERATOR_VALUE, NAMED, ABSENT, POINTER, ARRAY_OF, FUNCTION_OF, IDS, TYPED, TYPED_AND_MORE, PARAM, INIT_ONE, BRACES, DECL, INIT_DECLARATOR, INITIALIZER, LABEL, CASE, DEFAULT, EXPRESS, EMPTY, BLOCK, IF, ELSE_PART, SWITCH, WHILE, DO, FOR, GOTO, CONTINUE, BREAK, RETURN, FUNCTION, DECLARATION, SYNTAX, META_FUNCTION, META_VARIABLE, META_PARAM, META_VALUE, ELEMENT_LITERAL, ELEMENT_BIND, ELEMENT_ONE_OR_MORE, ELEMENT_ZERO_OR_MORE, ELEMENT_ONE_OR_MORE_BETWEEN, ELEMENT_ZERO_OR_MORE_BETWEEN, ELEMENT_MAYBE, BINDER, ELEMENTS, TOKEN_META_EXP, META_UNARY, META_BINARY_13, META_BINARY_12, META_BINARY_11, META_BINARY_10, META_BINARY_9, META_BINARY_8, META_BINARY_7, META_BINARY_6, META_BINARY_5, META_BINARY_4, CHOOSE, NAMED_CALL, QUOTE, TEMPLATE_PARENS, TEMPLATE_BRACES, TEMPLATE_ID, TEMPLATE_NUM, TEMPLATE_EXP, TEMPLATE_STMT, TEMPLATE_DECL, TEMPLATE_ITEM, TEMPLATE_SPEC, TEMPLATE_PARAM, TEMPLATE_MEMBER, TEMPLATE_IDS, TEMPLATE_NUMS, TEMPLATE_EXPS, TEMPLATE_STMTS, TEMPLATE_DECLS, TEMPLATE_ITEMS, TEMPLATE_SPECS, TEMPLATE_PARAMS, TEMPLATE_MEMBERS, VALUE, SET, ASSIGNMENT, META_IF, META_ELSE_PART, META_WHILE, META_DO, META_FOR, META_RETURN, MATCH, META_BLOCK, LOCAL, HOLE_VARIABLE, HOLE_COMPUTED, HOLE_COMPUTED_LIST, HOLE_BINDER, CALL, PART_TOKEN, LITERAL, LIST, ROW}
+use Rattle.c_forms.specs.declared.table.TheConstants.{TOKEN_EXP, STR, INDEX, APPLY, FIELD, ARROW_OF, POST_INC, POST_DEC, PRE_INC, PRE_DEC, UNARY, SIZEOF_EXP, SIZEOF_TYPE, CAST, BINARY_13, BINARY_12, BINARY_11, BINARY_10, BINARY_9, BINARY_8, BINARY_7, BINARY_6, BINARY_5, BINARY_4, CONDITIONAL, ASSIGN, COMMA_OF, TYPE_NAME, SPECS, TOKEN_SPEC, TYPEDEF_NAME, STRUCT_OF, ENUM_OF, MEMBERS, MEMBER, MEMBER_DECLARATOR, WIDTH, ENUMERATORS, ENUMERATOR, ENUMERATOR_VALUE, NAMED, ABSENT, POINTER, ARRAY_OF, FUNCTION_OF, IDS, TYPED, TYPED_AND_MORE, PARAM, INIT_ONE, BRACES, DECL, INIT_DECLARATOR, INITIALIZER, LABEL, CASE, DEFAULT, EXPRESS, EMPTY, BLOCK, IF, ELSE_PART, SWITCH, WHILE, DO, FOR, GOTO, CONTINUE, BREAK, RETURN, FUNCTION, DECLARATION, SYNTAX, META_FUNCTION, META_VARIABLE, META_PARAM, META_VALUE, ELEMENT_LITERAL, ELEMENT_BIND, ELEMENT_ONE_OR_MORE, ELEMENT_ZERO_OR_MORE, ELEMENT_ONE_OR_MORE_BETWEEN, ELEMENT_ZERO_OR_MORE_BETWEEN, ELEMENT_MAYBE, BINDER, ELEMENTS, TOKEN_META_EXP, META_UNARY, META_BINARY_13, META_BINARY_12, META_BINARY_11, META_BINARY_10, META_BINARY_9, META_BINARY_8, META_BINARY_7, META_BINARY_6, META_BINARY_5, META_BINARY_4, CHOOSE, NAMED_CALL, QUOTE, TEMPLATE_PARENS, TEMPLATE_BRACES, TEMPLATE_ID, TEMPLATE_NUM, TEMPLATE_EXP, TEMPLATE_STMT, TEMPLATE_DECL, TEMPLATE_ITEM, TEMPLATE_SPEC, TEMPLATE_PARAM, TEMPLATE_MEMBER, TEMPLATE_IDS, TEMPLATE_NUMS, TEMPLATE_EXPS, TEMPLATE_STMTS, TEMPLATE_DECLS, TEMPLATE_ITEMS, TEMPLATE_SPECS, TEMPLATE_PARAMS, TEMPLATE_MEMBERS, VALUE, SET, ASSIGNMENT, META_IF, META_ELSE_PART, META_WHILE, META_DO, META_FOR, META_RETURN, MATCH, META_BLOCK, LOCAL, HOLE_VARIABLE, HOLE_COMPUTED, HOLE_COMPUTED_LIST, HOLE_BINDER, CALL, PART_TOKEN, LITERAL, LIST, ROW}
 
 -- a row as definitions see it
 pub record Line : Type 0 where
@@ -55,26 +55,26 @@ abbrev pub shown : Row → Line
 shown r = line r.role r.level r.counts r.pieces.now
 
 abbrev pub template_row : Kind → Line
-template_row kind.Id = line Prefixed 17 Nothing TEMPLATE_ID.now
-template_row kind.Num = line Prefixed 17 Nothing TEMPLATE_NUM.now
-template_row kind.Exp = line Prefixed 17 Nothing TEMPLATE_EXP.now
-template_row kind.Stmt = line Prefixed 17 Nothing TEMPLATE_STMT.now
-template_row kind.Decl = line Prefixed 17 Nothing TEMPLATE_DECL.now
-template_row kind.Item = line Prefixed 17 Nothing TEMPLATE_ITEM.now
-template_row kind.Spec = line Prefixed 17 Nothing TEMPLATE_SPEC.now
-template_row kind.Param = line Prefixed 17 Nothing TEMPLATE_PARAM.now
-template_row kind.Member = line Prefixed 17 Nothing TEMPLATE_MEMBER.now
+template_row kind.Id = line Due 17 Nothing TEMPLATE_ID.now
+template_row kind.Num = line Due 17 Nothing TEMPLATE_NUM.now
+template_row kind.Exp = line Due 17 Nothing TEMPLATE_EXP.now
+template_row kind.Stmt = line Due 17 Nothing TEMPLATE_STMT.now
+template_row kind.Decl = line Due 17 Nothing TEMPLATE_DECL.now
+template_row kind.Item = line Due 17 Nothing TEMPLATE_ITEM.now
+template_row kind.Spec = line Due 17 Nothing TEMPLATE_SPEC.now
+template_row kind.Param = line Due 17 Nothing TEMPLATE_PARAM.now
+template_row kind.Member = line Due 17 Nothing TEMPLATE_MEMBER.now
 
 abbrev pub list_template_row : Kind → Line
-list_template_row kind.Id = line Prefixed 17 Nothing TEMPLATE_IDS.now
-list_template_row kind.Num = line Prefixed 17 Nothing TEMPLATE_NUMS.now
-list_template_row kind.Exp = line Prefixed 17 Nothing TEMPLATE_EXPS.now
-list_template_row kind.Stmt = line Prefixed 17 Nothing TEMPLATE_STMTS.now
-list_template_row kind.Decl = line Prefixed 17 Nothing TEMPLATE_DECLS.now
-list_template_row kind.Item = line Prefixed 17 Nothing TEMPLATE_ITEMS.now
-list_template_row kind.Spec = line Prefixed 17 Nothing TEMPLATE_SPECS.now
-list_template_row kind.Param = line Prefixed 17 Nothing TEMPLATE_PARAMS.now
-list_template_row kind.Member = line Prefixed 17 Nothing TEMPLATE_MEMBERS.now
+list_template_row kind.Id = line Due 17 Nothing TEMPLATE_IDS.now
+list_template_row kind.Num = line Due 17 Nothing TEMPLATE_NUMS.now
+list_template_row kind.Exp = line Due 17 Nothing TEMPLATE_EXPS.now
+list_template_row kind.Stmt = line Due 17 Nothing TEMPLATE_STMTS.now
+list_template_row kind.Decl = line Due 17 Nothing TEMPLATE_DECLS.now
+list_template_row kind.Item = line Due 17 Nothing TEMPLATE_ITEMS.now
+list_template_row kind.Spec = line Due 17 Nothing TEMPLATE_SPECS.now
+list_template_row kind.Param = line Due 17 Nothing TEMPLATE_PARAMS.now
+list_template_row kind.Member = line Due 17 Nothing TEMPLATE_MEMBERS.now
 
 abbrev pub binary_row : BinaryOperator → Line
 binary_row operator.LogicalOr = line Tailed 4 SizeAndHeight BINARY_4.now
@@ -143,7 +143,7 @@ abbrev pub spec_row : SpecForm → Line
 spec_row (spec.Storage w) = line Leafed 17 Size TOKEN_SPEC.now
 spec_row (spec.Qualifier w) = line Leafed 17 Size TOKEN_SPEC.now
 spec_row (spec.Basic w) = line Leafed 17 Size TOKEN_SPEC.now
-spec_row (spec.Typedef w) = line Leafed 17 Size TOKEN_SPEC.now
+spec_row (spec.Typedef w) = line Due 17 Size TYPEDEF_NAME.now
 spec_row (spec.StructOf w) = line Prefixed 17 SizeAndHeight STRUCT_OF.now
 spec_row spec.EnumOf = line Prefixed 17 SizeAndHeight ENUM_OF.now
 
@@ -183,9 +183,9 @@ stmt_row stmt.Return = line Prefixed 17 Size RETURN.now
 abbrev pub item_row : ItemForm → Line
 item_row item.Function = line Declared 17 Size FUNCTION.now
 item_row item.Declaration = line Declared 17 Size DECLARATION.now
-item_row (item.Syntax result name) = line Prefixed 17 Size SYNTAX.now
-item_row (item.MetaFunction result name) = line Prefixed 17 Size META_FUNCTION.now
-item_row (item.MetaVariable type name) = line Prefixed 17 Size META_VARIABLE.now
+item_row (item.Syntax result name) = line Due 17 Size SYNTAX.now
+item_row (item.MetaFunction result name) = line Due 17 Size META_FUNCTION.now
+item_row (item.MetaVariable type name) = line Due 17 Size META_VARIABLE.now
 
 abbrev pub meta_exp_row : MetaExpForm → Line
 meta_exp_row (meta_exp.Int w) = line Leafed 17 Size TOKEN_META_EXP.now
@@ -221,32 +221,32 @@ element_row (element.Literal w) = line Leafed 17 Nothing ELEMENT_LITERAL.now
 element_row element.Bind = line Prefixed 17 Nothing ELEMENT_BIND.now
 element_row element.OneOrMore = line Prefixed 17 SizeAndHeight ELEMENT_ONE_OR_MORE.now
 element_row element.ZeroOrMore = line Prefixed 17 SizeAndHeight ELEMENT_ZERO_OR_MORE.now
-element_row (element.OneOrMoreBetween w) = line Prefixed 17 SizeAndHeight ELEMENT_ONE_OR_MORE_BETWEEN.now
-element_row (element.ZeroOrMoreBetween w) = line Prefixed 17 SizeAndHeight ELEMENT_ZERO_OR_MORE_BETWEEN.now
-element_row (element.Maybe w) = line Prefixed 17 SizeAndHeight ELEMENT_MAYBE.now
+element_row (element.OneOrMoreBetween w) = line Due 17 SizeAndHeight ELEMENT_ONE_OR_MORE_BETWEEN.now
+element_row (element.ZeroOrMoreBetween w) = line Due 17 SizeAndHeight ELEMENT_ZERO_OR_MORE_BETWEEN.now
+element_row (element.Maybe w) = line Due 17 SizeAndHeight ELEMENT_MAYBE.now
 
 abbrev pub hole_row : HoleForm → Line
-hole_row (hole.Variable kind is_list name) = line Prefixed 17 SizeAndHeight HOLE_VARIABLE.now
-hole_row (hole.Computed kind is_list) = if is_list then line Prefixed 17 SizeAndHeight HOLE_COMPUTED_LIST.now else line Prefixed 17 SizeAndHeight HOLE_COMPUTED.now
-hole_row (hole.Binder kind name) = line Prefixed 17 SizeAndHeight HOLE_BINDER.now
+hole_row (hole.Variable kind is_list name) = line Carried 17 SizeAndHeight HOLE_VARIABLE.now
+hole_row (hole.Computed kind is_list) = if is_list then line Carried 17 SizeAndHeight HOLE_COMPUTED_LIST.now else line Carried 17 SizeAndHeight HOLE_COMPUTED.now
+hole_row (hole.Binder kind name) = line Carried 17 SizeAndHeight HOLE_BINDER.now
 
 abbrev pub group_row : GroupForm → Line
 group_row group.List = line Bare 17 Nothing LIST.now
 group_row group.Row = line Bare 17 Nothing ROW.now
 group_row group.InitDeclarator = line Due 17 Nothing INIT_DECLARATOR.now
-group_row group.Initializer = line Prefixed 17 Nothing INITIALIZER.now
+group_row group.Initializer = line Due 17 Nothing INITIALIZER.now
 group_row group.MemberDeclarator = line Due 17 Nothing MEMBER_DECLARATOR.now
-group_row group.Width = line Prefixed 17 Nothing WIDTH.now
-group_row group.Members = line Prefixed 17 Nothing MEMBERS.now
-group_row group.Enumerators = line Prefixed 17 Nothing ENUMERATORS.now
-group_row group.EnumeratorValue = line Prefixed 17 Nothing ENUMERATOR_VALUE.now
-group_row group.ElsePart = line Prefixed 17 Nothing ELSE_PART.now
-group_row group.MetaElsePart = line Prefixed 17 Nothing META_ELSE_PART.now
-group_row (group.Assignment w) = line Marked 17 Nothing ASSIGNMENT.now
-group_row group.MetaValue = line Prefixed 17 Nothing META_VALUE.now
-group_row (group.MetaParam type name) = line Prefixed 17 Nothing META_PARAM.now
-group_row (group.Binder kind name) = line Prefixed 17 Nothing BINDER.now
-group_row group.Elements = line Prefixed 17 Nothing ELEMENTS.now
+group_row group.Width = line Due 17 Nothing WIDTH.now
+group_row group.Members = line Due 17 Nothing MEMBERS.now
+group_row group.Enumerators = line Due 17 Nothing ENUMERATORS.now
+group_row group.EnumeratorValue = line Due 17 Nothing ENUMERATOR_VALUE.now
+group_row group.ElsePart = line Due 17 Nothing ELSE_PART.now
+group_row group.MetaElsePart = line Due 17 Nothing META_ELSE_PART.now
+group_row (group.Assignment w) = line Due 17 Nothing ASSIGNMENT.now
+group_row group.MetaValue = line Due 17 Nothing META_VALUE.now
+group_row (group.MetaParam type name) = line Due 17 Nothing META_PARAM.now
+group_row (group.Binder kind name) = line Due 17 Nothing BINDER.now
+group_row group.Elements = line Due 17 Nothing ELEMENTS.now
 
 -- the row of each form
 abbrev pub row : Form → Line
@@ -263,13 +263,13 @@ row (form.Init form) = init_row form
 row form.Decl = line Declared 17 Size DECL.now
 row (form.Stmt form) = stmt_row form
 row (form.Item form) = item_row form
-row (form.Id w) = line Leafed 17 Nothing PART_TOKEN.now
-row (form.Literal w) = line Leafed 17 Size LITERAL.now
+row (form.Id w) = line Due 17 Nothing PART_TOKEN.now
+row (form.Literal w) = line Due 17 Size LITERAL.now
 row (form.MetaExp form) = meta_exp_row form
 row (form.Template form) = template_form_row form
 row (form.MetaStmt form) = meta_stmt_row form
-row form.MetaBlock = line Prefixed 17 SizeAndHeight META_BLOCK.now
-row (form.Local type name) = line Prefixed 17 Size LOCAL.now
+row form.MetaBlock = line Due 17 SizeAndHeight META_BLOCK.now
+row (form.Local type name) = line Due 17 Size LOCAL.now
 row (form.Element form) = element_row form
 row (form.Hole form) = hole_row form
 row (form.Call number result tail) = line Carried 17 SizeAndHeight CALL.now

@@ -34,7 +34,7 @@ use Rattle.c_forms.specs.declared.rules.Rule.TheVariants.{Parts, SoleType, NoTyp
 use Rattle.c_forms.specs.Forests.{Forest, empty, tree}
 use Rattle.c_forms.specs.Opens.{last_opens}
 use Rattle.c_forms.specs.Measures.{ends_as_last_part, pieces}
-use Rattle.c_forms.specs.Places.{occupant_of, stands}
+use Rattle.c_forms.specs.Places.{occupant_of}
 use Rattle.c_forms.specs.Fits.{fits}
 
 -- ---- parts
@@ -269,3 +269,11 @@ among_rules _ ps = None
 -- the first rule that a node of a form breaks with its parts, each of which is valid
 abbrev pub broken : Form → Forest → Option Rule
 broken f ps = if fits (pieces f) ps then among_rules f ps else Some Parts
+
+abbrev pub is_nothing : Option Rule → Bool
+is_nothing None = true
+is_nothing (Some rule) = false
+
+-- whether a node of a form breaks none
+abbrev pub is_right : Form → Forest → Bool
+is_right f ps = is_nothing (broken f ps)

@@ -10,6 +10,7 @@ mod places;
 mod rows;
 mod rules;
 mod table;
+mod tokens;
 
 pub use forms::{
     DeclaratorForm, ElementForm, ExpForm, Form, GroupForm, HoleForm, InitForm, ItemForm,
@@ -25,3 +26,4 @@ pub use places::{
 };
 pub use rows::row;
 pub use rules::Rule;
+pub use tokens::{begun, continued};

@@ -1,9 +1,10 @@
 //! What the row of a form says of a node by itself.
 
 ghost use Rattle.std.specs.Prelude.{◌≡◌, ◌≤◌};
+ghost use Rattle.c_forms.specs.Equal.{one_form};
 ghost use Rattle.c_forms.specs.Measures as measures;
 
-use crate::forms::{Form, GroupForm, MetaStmtForm, StmtForm};
+use crate::forms::{Form, GroupForm, ItemForm, MetaStmtForm, StmtForm};
 use crate::pieces::{Counts, Piece};
 use crate::rows::row;
 
@@ -44,12 +45,20 @@ impl Form {
         row(self).pieces
     }
 
-    /// Whether it is neither a placeholder nor a call of a macro.
+    /// Whether two forms are equal.
+    pub fn is_same(self, other: Form) -> bool
+        ensures { result ≡ one_form self other }
+    {
+        self == other
+    }
+
+    /// Whether it is neither a placeholder, nor a call of a macro, nor a definition of the macro notation.
     pub fn is_plain(self) -> bool
         ensures { result ≡ measures.is_plain self }
     {
         match self {
             Form::Hole(_) | Form::Call { .. } => false,
+            Form::Item(form) => is_external_declaration(form),
             _ => true,
         }
     }
@@ -66,6 +75,15 @@ impl Form {
             Form::Call { tail, .. } => tail,
             _ => false,
         }
+    }
+}
+
+fn is_external_declaration(form: ItemForm) -> bool
+    ensures { result ≡ measures.is_external_declaration form }
+{
+    match form {
+        ItemForm::Function | ItemForm::Declaration => true,
+        _ => false,
     }
 }
 

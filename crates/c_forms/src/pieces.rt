@@ -9,8 +9,10 @@ pub enum Sort {
     Exp,
     /// an integer constant
     Num,
-    /// an identifier that is a part
+    /// an identifier that is a part, whatever it stands for elsewhere
     Id,
+    /// an identifier that is declared or is a parameter of an identifier list
+    DeclaredId,
     /// a string literal that is a part
     Literal,
     TypeName,
@@ -174,7 +176,7 @@ pub enum Role {
     Due,
     /// it has no token
     Bare,
-    /// a macro's call, by the macro's pattern
+    /// a placeholder, or a macro's call by its pattern; the reader sees its beginning as a class of its own
     Carried,
 }
 

@@ -169,6 +169,7 @@ pub fn serves(sort: Sort, due: Sort) -> bool
 {
     match due {
         Sort::Exp => sort == Sort::Exp || sort == Sort::Num,
+        Sort::DeclaredId => sort == Sort::Id,
         Sort::Spec => sort == Sort::Spec || sort == Sort::PlainSpec || sort == Sort::Qualifier,
         Sort::PlainSpec => sort == Sort::PlainSpec || sort == Sort::Qualifier,
         Sort::AbstractDeclarator
@@ -198,6 +199,7 @@ fn is_argument(sort: Sort) -> bool
         | Sort::Specs
         | Sort::Param
         | Sort::Member
+        | Sort::List
         | Sort::Row => true,
         _ => false,
     }

@@ -32,15 +32,15 @@ fn template_row(kind: Kind) -> Row
     ensures { shown result ≡ rows.template_row kind }
 {
     match kind {
-        Kind::Id => of(Prefixed, 17, Nothing, TEMPLATE_ID),
-        Kind::Num => of(Prefixed, 17, Nothing, TEMPLATE_NUM),
-        Kind::Exp => of(Prefixed, 17, Nothing, TEMPLATE_EXP),
-        Kind::Stmt => of(Prefixed, 17, Nothing, TEMPLATE_STMT),
-        Kind::Decl => of(Prefixed, 17, Nothing, TEMPLATE_DECL),
-        Kind::Item => of(Prefixed, 17, Nothing, TEMPLATE_ITEM),
-        Kind::Spec => of(Prefixed, 17, Nothing, TEMPLATE_SPEC),
-        Kind::Param => of(Prefixed, 17, Nothing, TEMPLATE_PARAM),
-        Kind::Member => of(Prefixed, 17, Nothing, TEMPLATE_MEMBER),
+        Kind::Id => of(Due, 17, Nothing, TEMPLATE_ID),
+        Kind::Num => of(Due, 17, Nothing, TEMPLATE_NUM),
+        Kind::Exp => of(Due, 17, Nothing, TEMPLATE_EXP),
+        Kind::Stmt => of(Due, 17, Nothing, TEMPLATE_STMT),
+        Kind::Decl => of(Due, 17, Nothing, TEMPLATE_DECL),
+        Kind::Item => of(Due, 17, Nothing, TEMPLATE_ITEM),
+        Kind::Spec => of(Due, 17, Nothing, TEMPLATE_SPEC),
+        Kind::Param => of(Due, 17, Nothing, TEMPLATE_PARAM),
+        Kind::Member => of(Due, 17, Nothing, TEMPLATE_MEMBER),
     }
 }
 
@@ -48,15 +48,15 @@ fn list_template_row(kind: Kind) -> Row
     ensures { shown result ≡ rows.list_template_row kind }
 {
     match kind {
-        Kind::Id => of(Prefixed, 17, Nothing, TEMPLATE_IDS),
-        Kind::Num => of(Prefixed, 17, Nothing, TEMPLATE_NUMS),
-        Kind::Exp => of(Prefixed, 17, Nothing, TEMPLATE_EXPS),
-        Kind::Stmt => of(Prefixed, 17, Nothing, TEMPLATE_STMTS),
-        Kind::Decl => of(Prefixed, 17, Nothing, TEMPLATE_DECLS),
-        Kind::Item => of(Prefixed, 17, Nothing, TEMPLATE_ITEMS),
-        Kind::Spec => of(Prefixed, 17, Nothing, TEMPLATE_SPECS),
-        Kind::Param => of(Prefixed, 17, Nothing, TEMPLATE_PARAMS),
-        Kind::Member => of(Prefixed, 17, Nothing, TEMPLATE_MEMBERS),
+        Kind::Id => of(Due, 17, Nothing, TEMPLATE_IDS),
+        Kind::Num => of(Due, 17, Nothing, TEMPLATE_NUMS),
+        Kind::Exp => of(Due, 17, Nothing, TEMPLATE_EXPS),
+        Kind::Stmt => of(Due, 17, Nothing, TEMPLATE_STMTS),
+        Kind::Decl => of(Due, 17, Nothing, TEMPLATE_DECLS),
+        Kind::Item => of(Due, 17, Nothing, TEMPLATE_ITEMS),
+        Kind::Spec => of(Due, 17, Nothing, TEMPLATE_SPECS),
+        Kind::Param => of(Due, 17, Nothing, TEMPLATE_PARAMS),
+        Kind::Member => of(Due, 17, Nothing, TEMPLATE_MEMBERS),
     }
 }
 
@@ -161,8 +161,10 @@ fn spec_row(form: SpecForm) -> Row
     ensures { shown result ≡ rows.spec_row form }
 {
     match form {
-        SpecForm::Storage(_) | SpecForm::Qualifier(_) | SpecForm::Basic(_) | SpecForm::Typedef(_) =>
-            of(Leafed, 17, Size, TOKEN_SPEC),
+        SpecForm::Storage(_) | SpecForm::Qualifier(_) | SpecForm::Basic(_) => of(
+            Leafed, 17, Size, TOKEN_SPEC,
+        ),
+        SpecForm::Typedef(_) => of(Due, 17, Size, TYPEDEF_NAME),
         SpecForm::StructOf(_) => of(Prefixed, 17, SizeAndHeight, STRUCT_OF),
         SpecForm::EnumOf => of(Prefixed, 17, SizeAndHeight, ENUM_OF),
     }
@@ -227,9 +229,9 @@ fn item_row(form: ItemForm) -> Row
     match form {
         ItemForm::Function => of(Declared, 17, Size, FUNCTION),
         ItemForm::Declaration => of(Declared, 17, Size, DECLARATION),
-        ItemForm::Syntax { .. } => of(Prefixed, 17, Size, SYNTAX),
-        ItemForm::MetaFunction { .. } => of(Prefixed, 17, Size, META_FUNCTION),
-        ItemForm::MetaVariable { .. } => of(Prefixed, 17, Size, META_VARIABLE),
+        ItemForm::Syntax { .. } => of(Due, 17, Size, SYNTAX),
+        ItemForm::MetaFunction { .. } => of(Due, 17, Size, META_FUNCTION),
+        ItemForm::MetaVariable { .. } => of(Due, 17, Size, META_VARIABLE),
     }
 }
 
@@ -288,19 +290,14 @@ fn element_row(form: ElementForm) -> Row
         ElementForm::Bind => of(Prefixed, 17, Nothing, ELEMENT_BIND),
         ElementForm::OneOrMore => of(Prefixed, 17, SizeAndHeight, ELEMENT_ONE_OR_MORE),
         ElementForm::ZeroOrMore => of(Prefixed, 17, SizeAndHeight, ELEMENT_ZERO_OR_MORE),
-        ElementForm::OneOrMoreBetween(_) => of(
-            Prefixed,
-            17,
-            SizeAndHeight,
-            ELEMENT_ONE_OR_MORE_BETWEEN,
-        ),
+        ElementForm::OneOrMoreBetween(_) => of(Due, 17, SizeAndHeight, ELEMENT_ONE_OR_MORE_BETWEEN),
         ElementForm::ZeroOrMoreBetween(_) => of(
-            Prefixed,
+            Due,
             17,
             SizeAndHeight,
             ELEMENT_ZERO_OR_MORE_BETWEEN,
         ),
-        ElementForm::Maybe(_) => of(Prefixed, 17, SizeAndHeight, ELEMENT_MAYBE),
+        ElementForm::Maybe(_) => of(Due, 17, SizeAndHeight, ELEMENT_MAYBE),
     }
 }
 
@@ -308,15 +305,15 @@ fn hole_row(form: HoleForm) -> Row
     ensures { shown result ≡ rows.hole_row form }
 {
     match form {
-        HoleForm::Variable { .. } => of(Prefixed, 17, SizeAndHeight, HOLE_VARIABLE),
+        HoleForm::Variable { .. } => of(Carried, 17, SizeAndHeight, HOLE_VARIABLE),
         HoleForm::Computed { is_list, .. } => {
             if is_list {
-                of(Prefixed, 17, SizeAndHeight, HOLE_COMPUTED_LIST)
+                of(Carried, 17, SizeAndHeight, HOLE_COMPUTED_LIST)
             } else {
-                of(Prefixed, 17, SizeAndHeight, HOLE_COMPUTED)
+                of(Carried, 17, SizeAndHeight, HOLE_COMPUTED)
             }
         }
-        HoleForm::Binder { .. } => of(Prefixed, 17, SizeAndHeight, HOLE_BINDER),
+        HoleForm::Binder { .. } => of(Carried, 17, SizeAndHeight, HOLE_BINDER),
     }
 }
 
@@ -327,19 +324,19 @@ fn group_row(form: GroupForm) -> Row
         GroupForm::List => of(Bare, 17, Nothing, LIST),
         GroupForm::Row => of(Bare, 17, Nothing, ROW),
         GroupForm::InitDeclarator => of(Due, 17, Nothing, INIT_DECLARATOR),
-        GroupForm::Initializer => of(Prefixed, 17, Nothing, INITIALIZER),
+        GroupForm::Initializer => of(Due, 17, Nothing, INITIALIZER),
         GroupForm::MemberDeclarator => of(Due, 17, Nothing, MEMBER_DECLARATOR),
-        GroupForm::Width => of(Prefixed, 17, Nothing, WIDTH),
-        GroupForm::Members => of(Prefixed, 17, Nothing, MEMBERS),
-        GroupForm::Enumerators => of(Prefixed, 17, Nothing, ENUMERATORS),
-        GroupForm::EnumeratorValue => of(Prefixed, 17, Nothing, ENUMERATOR_VALUE),
-        GroupForm::ElsePart => of(Prefixed, 17, Nothing, ELSE_PART),
-        GroupForm::MetaElsePart => of(Prefixed, 17, Nothing, META_ELSE_PART),
-        GroupForm::Assignment(_) => of(Marked, 17, Nothing, ASSIGNMENT),
-        GroupForm::MetaValue => of(Prefixed, 17, Nothing, META_VALUE),
-        GroupForm::MetaParam { .. } => of(Prefixed, 17, Nothing, META_PARAM),
-        GroupForm::Binder { .. } => of(Prefixed, 17, Nothing, BINDER),
-        GroupForm::Elements => of(Prefixed, 17, Nothing, ELEMENTS),
+        GroupForm::Width => of(Due, 17, Nothing, WIDTH),
+        GroupForm::Members => of(Due, 17, Nothing, MEMBERS),
+        GroupForm::Enumerators => of(Due, 17, Nothing, ENUMERATORS),
+        GroupForm::EnumeratorValue => of(Due, 17, Nothing, ENUMERATOR_VALUE),
+        GroupForm::ElsePart => of(Due, 17, Nothing, ELSE_PART),
+        GroupForm::MetaElsePart => of(Due, 17, Nothing, META_ELSE_PART),
+        GroupForm::Assignment(_) => of(Due, 17, Nothing, ASSIGNMENT),
+        GroupForm::MetaValue => of(Due, 17, Nothing, META_VALUE),
+        GroupForm::MetaParam { .. } => of(Due, 17, Nothing, META_PARAM),
+        GroupForm::Binder { .. } => of(Due, 17, Nothing, BINDER),
+        GroupForm::Elements => of(Due, 17, Nothing, ELEMENTS),
     }
 }
 
@@ -361,13 +358,13 @@ pub fn row(form: Form) -> Row
         Form::Decl => of(Declared, 17, Size, DECL),
         Form::Stmt(form) => stmt_row(form),
         Form::Item(form) => item_row(form),
-        Form::Id(_) => of(Leafed, 17, Nothing, PART_TOKEN),
-        Form::Literal(_) => of(Leafed, 17, Size, LITERAL),
+        Form::Id(_) => of(Due, 17, Nothing, PART_TOKEN),
+        Form::Literal(_) => of(Due, 17, Size, LITERAL),
         Form::MetaExp(form) => meta_exp_row(form),
         Form::Template(form) => template_form_row(form),
         Form::MetaStmt(form) => meta_stmt_row(form),
-        Form::MetaBlock => of(Prefixed, 17, SizeAndHeight, META_BLOCK),
-        Form::Local { .. } => of(Prefixed, 17, Size, LOCAL),
+        Form::MetaBlock => of(Due, 17, SizeAndHeight, META_BLOCK),
+        Form::Local { .. } => of(Due, 17, Size, LOCAL),
         Form::Element(form) => element_row(form),
         Form::Hole(form) => hole_row(form),
         Form::Call { .. } => of(Carried, 17, SizeAndHeight, CALL),

@@ -236,6 +236,8 @@ pub const SPECS: &[Piece] = &[Group(All, PlainSpec, 0)];
 
 pub const TOKEN_SPEC: &[Piece] = &[Own];
 
+pub const TYPEDEF_NAME: &[Piece] = &[Own];
+
 pub const STRUCT_OF: &[Piece] = &[Own, Group(Optional, Id, 0), Group(Due, Members, 0)];
 
 pub const ENUM_OF: &[Piece] = &[
@@ -272,7 +274,7 @@ pub const ENUMERATOR_VALUE: &[Piece] = &[Token(EQUAL), One(Exp, 3)];
 
 // Declarators and initializers (6.5.4, 6.5.5, 6.5.7)
 
-pub const NAMED: &[Piece] = &[One(Id, 0)];
+pub const NAMED: &[Piece] = &[One(DeclaredId, 0)];
 
 pub const ABSENT: &[Piece] = &[];
 
@@ -296,7 +298,7 @@ pub const FUNCTION_OF: &[Piece] = &[
     Token(RIGHT_PAREN),
 ];
 
-pub const IDS: &[Piece] = &[Group(ANY_WITH_COMMAS, Id, 0)];
+pub const IDS: &[Piece] = &[Group(ANY_WITH_COMMAS, DeclaredId, 0)];
 
 pub const TYPED: &[Piece] = &[Group(PARAMETERS, Param, 0)];
 

@@ -1,0 +1,9 @@
+pub mod Counts
+pub mod Deep
+pub mod Few
+pub mod Views
+pub mod Falls
+pub mod Same
+pub mod Valid
+pub mod Depths
+pub mod Stops
