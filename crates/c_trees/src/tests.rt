@@ -1,9 +1,11 @@
-//! What no clause says: that the highest trees can be made, compared, copied and let go, and any number of them.
+//! What no clause says: that trees can be made, the highest too, and compared, copied and let go, any number of them.
 
-use crate::{Parts, Tree, TreeStop, is_same};
-use c_forms::{ExpForm, Form};
-use c_tokens::{Span, Word};
+use crate::{Parts, Tree, TreeStop, bindings, is_same};
+use c_forms::{ExpForm, Form, GroupForm};
+use c_tokens::{Element, Kind, Span, Word};
+use sqlite_items::Items;
 use std::alloc::Global;
+use std::slice;
 use std::test::Fail;
 
 const HERE: Span = Span { start: 0, end: 1 };
@@ -46,5 +48,38 @@ fn million_nodes(rt: HostRuntime) -> Result<(), Fail> {
         total = total.saturating_add(chain(alloc, 500)?.size());
     }
     assert_eq!(rt; total, 1_001_000);
+    Ok(())
+}
+
+fn binder(name: u32) -> Element {
+    Element::Bind {
+        kind: Kind::Exp,
+        name: Word(name),
+        span: HERE,
+    }
+}
+
+#[test]
+fn two_binders_in_three_rounds(rt: HostRuntime) -> Result<(), Fail> {
+    let alloc = rt.alloc();
+    let pattern = Element::Repeat {
+        least: 0,
+        sep: None,
+        body: Items::from_vec(vec![in alloc; binder(0), binder(1)]?),
+        span: HERE,
+    };
+    let mut rounds = Parts::new();
+    for _ in 0..3 {
+        let parts = Parts::two(chain(alloc, 0)?, chain(alloc, 1)?);
+        let round = Tree::checked(alloc, Form::Group(GroupForm::Row), HERE, parts)?;
+        rounds.push(alloc, round)?;
+    }
+    let part = Tree::list(alloc, HERE, rounds)?;
+    let all = bindings(alloc, slice::from_ref(&pattern), slice::from_ref(&part))?;
+    assert_eq!(rt; all.len(), 2);
+    for (height, list) in all.as_slice().iter().enumerate() {
+        assert_eq!(rt; list.parts().len(), 3);
+        assert_eq!(rt; list.height() as usize, height);
+    }
     Ok(())
 }
