@@ -129,6 +129,7 @@ is_argument s.Item = true
 is_argument s.Specs = true
 is_argument s.Param = true
 is_argument s.Member = true
+is_argument s.List = true
 is_argument s.Row = true
 is_argument _ = false
 

@@ -199,6 +199,7 @@ fn is_argument(sort: Sort) -> bool
         | Sort::Specs
         | Sort::Param
         | Sort::Member
+        | Sort::List
         | Sort::Row => true,
         _ => false,
     }

@@ -6,3 +6,4 @@ pub mod Falls
 pub mod Same
 pub mod Valid
 pub mod Depths
+pub mod Stops

@@ -15,6 +15,9 @@ use std::alloc::Global;
 use std::marker::Model;
 use std::rc::Rc;
 
+/// The greatest height of a tree.
+pub const MAX_HEIGHT: u32 = 1000;
+
 #[cycle(tree)]
 #[derive(Drop)]
 struct Node {
