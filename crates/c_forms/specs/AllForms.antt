@@ -1,5 +1,5 @@
 -- All forms, one for each row and each token that decides: with the word 0 where a form holds a word.
-use Rattle.std.specs.Prelude.{true, false, List, [], ◌∷◌, ◌++◌, map}
+use Rattle.std.specs.Prelude.{true, false, List, [], ◌∷◌}
 use Rattle.c_tokens.specs.declared.kind.Kind.TheVariants as kind
 use Rattle.c_tokens.specs.declared.kind.Base.TheVariants as base
 use Rattle.c_tokens.specs.declared.kind.MetaType.{MetaType}

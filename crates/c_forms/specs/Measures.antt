@@ -5,6 +5,8 @@ use Rattle.c_forms.specs.declared.pieces.Counts.{Counts}
 use Rattle.c_forms.specs.declared.pieces.Counts.TheVariants.{Nothing, Size, SizeAndHeight}
 use Rattle.c_forms.specs.declared.forms.Form.{Form}
 use Rattle.c_forms.specs.declared.forms.Form.TheVariants as form
+use Rattle.c_forms.specs.declared.forms.ItemForm.{ItemForm}
+use Rattle.c_forms.specs.declared.forms.ItemForm.TheVariants as item
 use Rattle.c_forms.specs.declared.forms.StmtForm.{StmtForm}
 use Rattle.c_forms.specs.declared.forms.StmtForm.TheVariants as stmt
 use Rattle.c_forms.specs.declared.forms.MetaStmtForm.{MetaStmtForm}
@@ -38,10 +40,16 @@ level f = (row f).level
 abbrev pub pieces : Form → List Piece
 pieces f = (row f).pieces
 
--- neither a placeholder nor a call of a macro
+abbrev pub is_external_declaration : ItemForm → Bool
+is_external_declaration item.Function = true
+is_external_declaration item.Declaration = true
+is_external_declaration _ = false
+
+-- neither a placeholder, nor a call of a macro, nor a definition of the macro notation
 abbrev pub is_plain : Form → Bool
 is_plain (form.Hole h) = false
 is_plain (form.Call n gives tail) = false
+is_plain (form.Item f) = is_external_declaration f
 is_plain _ = true
 
 abbrev pub stmt_ends_as_last_part : StmtForm → Bool

@@ -1,5 +1,5 @@
 -- What the row of a form must meet, so that the next token decides all that its reader decides. It is computed.
-use Rattle.std.specs.Prelude.{ℕ, Bool, true, false, not, ◌&&◌, ◌||◌, nat_lt, nat_eq, List, [], ◌∷◌, ◌++◌, map, Option, Some, None, if◌then◌else◌}
+use Rattle.std.specs.Prelude.{ℕ, Bool, true, false, not, ◌&&◌, ◌||◌, nat_lt, nat_eq, List, [], ◌∷◌, map, Option, Some, None, if◌then◌else◌}
 use Rattle.c_tokens.specs.declared.token.Punct.{Punct}
 use Rattle.c_tokens.specs.declared.token.Shape.{Shape}
 use Rattle.c_tokens.specs.declared.token.Shape.TheVariants as shape
@@ -9,7 +9,7 @@ use Rattle.c_tokens.specs.ClassNumbers.{class_number}
 use Rattle.c_forms.specs.declared.pieces.Sort.{Sort}
 use Rattle.c_forms.specs.declared.pieces.Sort.TheVariants as s
 use Rattle.c_forms.specs.declared.pieces.Repetition.{Repetition}
-use Rattle.c_forms.specs.declared.pieces.Repetition.TheVariants.{Optional, Greedy, Due, All, Any, Many, Spliced, Ended}
+use Rattle.c_forms.specs.declared.pieces.Repetition.TheVariants.{All, Any, Many, Spliced, Ended}
 use Rattle.c_forms.specs.declared.pieces.Piece.{Piece}
 use Rattle.c_forms.specs.declared.pieces.Piece.TheVariants.{Token, Maybe, Own, TypeTokens, KindName, One, Group, Arguments, Anything, Then}
 use Rattle.c_forms.specs.declared.pieces.Role.{Role}
@@ -20,9 +20,9 @@ use Rattle.c_forms.specs.declared.forms.Form.{Form}
 use Rattle.c_forms.specs.Equal.{one_form}
 use Rattle.c_forms.specs.Rows.{row}
 use Rattle.c_forms.specs.Measures.{level, pieces}
-use Rattle.c_forms.specs.Places.{occupant_of, is_sort, serves}
+use Rattle.c_forms.specs.Places.{occupant_of, is_sort}
 use Rattle.c_forms.specs.Tokens.{held, begun, continued}
-use Rattle.c_forms.specs.Sets.{Classes, has, within, apart, starts, may_be_empty, element_starts, goes_on, goes_on_with, part_goes_on, first, ends}
+use Rattle.c_forms.specs.Sets.{Classes, has, within, apart, starts, goes_on, part_goes_on, first, ends}
 
 abbrev sort_as : Occupant → Sort
 sort_as (what.Sort s.Num) = s.Exp

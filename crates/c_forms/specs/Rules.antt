@@ -34,7 +34,7 @@ use Rattle.c_forms.specs.declared.rules.Rule.TheVariants.{Parts, SoleType, NoTyp
 use Rattle.c_forms.specs.Forests.{Forest, empty, tree}
 use Rattle.c_forms.specs.Opens.{last_opens}
 use Rattle.c_forms.specs.Measures.{ends_as_last_part, pieces}
-use Rattle.c_forms.specs.Places.{occupant_of, stands}
+use Rattle.c_forms.specs.Places.{occupant_of}
 use Rattle.c_forms.specs.Fits.{fits}
 
 -- ---- parts

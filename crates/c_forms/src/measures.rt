@@ -4,7 +4,7 @@ ghost use Rattle.std.specs.Prelude.{◌≡◌, ◌≤◌};
 ghost use Rattle.c_forms.specs.Equal.{one_form};
 ghost use Rattle.c_forms.specs.Measures as measures;
 
-use crate::forms::{Form, GroupForm, MetaStmtForm, StmtForm};
+use crate::forms::{Form, GroupForm, ItemForm, MetaStmtForm, StmtForm};
 use crate::pieces::{Counts, Piece};
 use crate::rows::row;
 
@@ -52,12 +52,13 @@ impl Form {
         self == other
     }
 
-    /// Whether it is neither a placeholder nor a call of a macro.
+    /// Whether it is neither a placeholder, nor a call of a macro, nor a definition of the macro notation.
     pub fn is_plain(self) -> bool
         ensures { result ≡ measures.is_plain self }
     {
         match self {
             Form::Hole(_) | Form::Call { .. } => false,
+            Form::Item(form) => is_external_declaration(form),
             _ => true,
         }
     }
@@ -74,6 +75,15 @@ impl Form {
             Form::Call { tail, .. } => tail,
             _ => false,
         }
+    }
+}
+
+fn is_external_declaration(form: ItemForm) -> bool
+    ensures { result ≡ measures.is_external_declaration form }
+{
+    match form {
+        ItemForm::Function | ItemForm::Declaration => true,
+        _ => false,
     }
 }
 

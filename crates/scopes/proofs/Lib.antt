@@ -1,1 +1,3 @@
 mod Kept
+mod Walks
+mod Worked
