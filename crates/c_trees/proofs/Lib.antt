@@ -1,3 +1,5 @@
 mod Lengths
 mod Lasts
 mod Numbers
+mod Worked
+mod BinderSteps

@@ -7,3 +7,4 @@ pub mod Same
 pub mod Valid
 pub mod Depths
 pub mod Stops
+pub mod Bindings

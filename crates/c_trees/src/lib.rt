@@ -1,6 +1,7 @@
 //! The syntax trees of C and of the macro notation: one type of node for every form.
 #![tactic(auto)]
 
+mod binders;
 mod checked;
 mod fits;
 mod handles;
@@ -10,6 +11,7 @@ mod rules;
 mod same;
 mod tree;
 
+pub use binders::bindings;
 pub use checked::TreeStop;
 pub use handles::{Exp, Item, Stmt};
 pub use opens::ends_open;

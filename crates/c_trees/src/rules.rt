@@ -34,7 +34,7 @@ fn in_first(parts: &[Tree]) -> &[Tree]
     }
 }
 
-fn after_first(parts: &[Tree]) -> &[Tree]
+pub(crate) fn after_first(parts: &[Tree]) -> &[Tree]
     ensures { forest result.now ≡ rules.after_first (forest parts.now) }
 {
     match parts.split_first() {

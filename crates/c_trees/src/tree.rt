@@ -6,10 +6,12 @@ ghost use Rattle.c_forms.specs.Forests.{empty, forest, node};
 ghost use Rattle.c_trees.specs.Valid.{asks_for, valid, valid_tree};
 ghost use Rattle.c_forms.specs.Measures.{pieces};
 ghost use Rattle.c_forms.specs.Rules.{is_right};
+ghost use Rattle.c_forms.specs.declared.forms.Form.TheVariants as a_form;
+ghost use Rattle.c_forms.specs.declared.forms.GroupForm.TheVariants as a_group;
 ghost use Rattle.c_trees.specs.Counts.{capped, count, count_tree, high, high_tree, pure, pure_tree};
 
 use crate::parts::Parts;
-use c_forms::Form;
+use c_forms::{Form, GroupForm};
 use c_tokens::{Memory, Span};
 use std::alloc::Global;
 use std::marker::Model;
@@ -176,10 +178,31 @@ impl Tree {
         requires right { is_right form (forest parts) ≡ true }
         ensures { IfOk result (λ made. made ≡ node form span parts) }
     {
+        let kept = together(parts.as_slice());
+        Tree::over(alloc, form, span, parts, kept)
+    }
+
+    /// A list of trees, as high as the highest of them.
+    pub fn list(alloc: Global, span: Span, parts: Parts) -> Result<Tree, Memory>
+        ensures { IfOk result (λ made. made ≡ node (a_form.Group a_group.List) span parts) }
+    {
+        let kept = together(parts.as_slice());
+        Tree::over(alloc, Form::Group(GroupForm::List), span, parts, kept)
+    }
+
+    /// A node over parts that keep this together.
+    fn over(alloc: Global, form: Form, span: Span, parts: Parts, kept: Kept) -> Result<Tree, Memory>
+        requires size { kept.size ≡ capped (count (forest parts)) }
+        requires height { kept.height ≡ high (forest parts) }
+        requires pure { kept.is_pure ≡ pure (forest parts) }
+        requires valid { valid (forest parts) ≡ true }
+        requires low { star form + high (forest parts) ≤ 1000 }
+        requires right { is_right form (forest parts) ≡ true }
+        ensures { IfOk result (λ made. made ≡ node form span parts) }
+    {
         if parts.is_empty() {
             return Ok(Tree::leaf(form, span));
         }
-        let kept = together(parts.as_slice());
         let node = Node {
             form,
             span,

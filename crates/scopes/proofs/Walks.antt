@@ -19,7 +19,7 @@ use Rattle.scopes.specs.Events.{scope, in_order, declared_as, words, words_by, w
 use Rattle.scopes.specs.Events as events
 use Rattle.scopes.specs.declared.event.Name.{Name}
 use Rattle.scopes.specs.declared.table.WordClass.TheVariants.{Value}
-use Rattle.scopes.specs.Settling.{Settled, Scoped, Clashes, settled, is_same, Stops}
+use Rattle.scopes.specs.Settling.{Scoped, Clashes, settled, is_same, Stops}
 use Rattle.scopes.specs.Steps.{undone_by, IsLater, Goes, IsUnderWay}
 
 -- events and then others

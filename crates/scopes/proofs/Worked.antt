@@ -4,8 +4,6 @@ use Rattle.c_tokens.specs.declared.span.Span.{Span}
 use Rattle.c_tokens.specs.declared.token.Word.{Word}
 use Rattle.c_tokens.specs.declared.kind.Kind.TheVariants as kind
 use Rattle.c_tokens.specs.declared.kind.Base.TheVariants as base
-use Rattle.c_tokens.specs.declared.kind.MetaType.{MetaType}
-use Rattle.c_tokens.specs.declared.kind.MacroNo.{MacroNo}
 use Rattle.c_forms.specs.declared.operators.StorageClass.TheVariants as storage
 use Rattle.c_forms.specs.declared.operators.TypeQualifier.TheVariants as qualifier
 use Rattle.c_forms.specs.declared.operators.BasicType.TheVariants as basic
@@ -180,6 +178,24 @@ declared_before_initializer = refl
 declared_after_declarator : comes_to (declaration (int ∷ []) (one (array (named T) (name T ∷ [])) ∷ [])) ≡ Clashes T Value TypeName place
 declared_after_declarator = refl
 
+-- `int T, x = T;`
+declared_for_the_next : comes_to (declaration (int ∷ []) (one (named T) ∷ one_with (named x) (name T) ∷ [])) ≡ Scoped (((2, Value) ∷ (1, Value) ∷ (1, TypeName) ∷ []) ∷ [])
+declared_for_the_next = refl
+
+-- `typedef int x, *g;`
+typedef_names : events (declaration (typedef ∷ int ∷ []) (one (named x) ∷ one (pointer (named g)) ∷ [])) ≡ Declare x TypeName ∷ Declare g TypeName ∷ []
+typedef_names = refl
+
+-- `int x = (T) b;`
+cast_to_type : events (declaration (int ∷ []) (one_with (named x) (over (form.Exp exp.Cast) (over form.TypeName (list (type T ∷ []) ∷ absent ∷ []) ∷ name b ∷ [])) ∷ []))
+    ≡ Declare x Value ∷ Must T TypeName place ∷ Must b Value place ∷ []
+cast_to_type = refl
+
+-- `struct T x;` and `int x = b.T;`: tags and members take no part
+tag_and_member : (events (declaration (over (form.Spec (spec.StructOf kind_of.Struct)) (list (id T ∷ []) ∷ list [] ∷ []) ∷ []) (one (named x) ∷ [])) ≡ Declare x Value ∷ [])
+    × (events (declaration (int ∷ []) (one_with (named x) (over (form.Exp exp.Field) (name b ∷ id T ∷ [])) ∷ [])) ≡ Declare x Value ∷ Must b Value place ∷ [])
+tag_and_member = (refl, refl)
+
 -- `const T;`
 name_without_type : events (declaration (const ∷ []) (one (named T) ∷ [])) ≡ Must T Value place ∷ Declare T Value ∷ []
 name_without_type = refl
@@ -252,7 +268,7 @@ old_style = refl
 
 -- `int f(enum { x } a, int (*g)(int b)) { x; }`
 inner_parameter_stays_inside : events
-      (function (int ∷ []) (function_of (named f) (typed (param (enum_of (enumerator x [] ∷ []) ∷ []) (named a) ∷ param (int ∷ []) (function_of (pointer (named g)) (typed (param (int ∷ []) (named b) ∷ []))) ∷ []))) [] (express (name x) ∷ []))
+    (function (int ∷ []) (function_of (named f) (typed (param (enum_of (enumerator x [] ∷ []) ∷ []) (named a) ∷ param (int ∷ []) (function_of (pointer (named g)) (typed (param (int ∷ []) (named b) ∷ []))) ∷ []))) [] (express (name x) ∷ []))
     ≡ Enter ∷ Declare x Value ∷ Declare a Value ∷ Enter ∷ Declare b Value ∷ Leave ∷ Declare g Value ∷ Leave ∷ Declare f Value
     ∷ Enter ∷ Declare x Value ∷ Declare a Value ∷ Declare g Value ∷ Enter ∷ Must x Value place ∷ Leave ∷ Leave ∷ []
 inner_parameter_stays_inside = refl
@@ -266,3 +282,26 @@ parameters_next_to_the_name = refl
 word_of_untyped_parameter : events (function (void ∷ []) (function_of (named f) (typed (param (const ∷ []) (named a) ∷ []))) [] [])
     ≡ Enter ∷ Must a Value place ∷ Declare a Value ∷ Leave ∷ Declare f Value ∷ Enter ∷ Declare a Value ∷ Enter ∷ Leave ∷ Leave ∷ []
 word_of_untyped_parameter = refl
+
+-- `void f(struct { enum { a } b; } x) { }`
+enumerator_within_a_parameter : events (function (void ∷ []) (function_of (named f) (typed (param (struct_of (member (enum_of (enumerator a [] ∷ []) ∷ []) (field (named b) ∷ []) ∷ []) ∷ []) (named x) ∷ []))) [] [])
+    ≡ Enter ∷ Declare a Value ∷ Declare x Value ∷ Leave ∷ Declare f Value ∷ Enter ∷ Declare a Value ∷ Declare x Value ∷ Enter ∷ Leave ∷ Leave ∷ []
+enumerator_within_a_parameter = refl
+
+-- `int f(x) typedef int x; { x b; }`
+type_of_declaration_list : comes_to (function (int ∷ []) (function_of (named f) (ids (id x ∷ []))) (decl (typedef ∷ int ∷ []) (one (named x) ∷ []) ∷ []) (decl (type x ∷ []) (one (named b) ∷ []) ∷ []))
+    ≡ Scoped (((3, Value) ∷ (1, TypeName) ∷ []) ∷ [])
+type_of_declaration_list = refl
+
+-- `T() { }`
+function_named_as_a_type : comes_to (function [] (function_of (named T) (ids [])) [] []) ≡ Clashes T Value TypeName place
+function_named_as_a_type = refl
+
+-- `int T(void) { T; }`: the function is declared in its body
+function_hides_a_type : comes_to (function (int ∷ []) (function_of (named T) none) [] (express (name T) ∷ [])) ≡ Scoped (((1, Value) ∷ (1, TypeName) ∷ []) ∷ [])
+function_hides_a_type = refl
+
+-- `void f(void) { T: goto T; }`
+label_takes_no_part : events (function (void ∷ []) (function_of (named f) none) [] (over (form.Stmt stmt.Label) (id T ∷ over (form.Stmt stmt.Goto) (id T ∷ []) ∷ []) ∷ []))
+    ≡ Enter ∷ Leave ∷ Declare f Value ∷ Enter ∷ Enter ∷ Leave ∷ Leave ∷ []
+label_takes_no_part = refl

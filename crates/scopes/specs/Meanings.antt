@@ -1,5 +1,5 @@
 -- What the forms of nodes mean to the scopes.
-use Rattle.std.specs.Prelude.{Bool, true, false, not, ◌||◌, Option, Some, None, if◌then◌else◌}
+use Rattle.std.specs.Prelude.{Bool, true, false, not, ◌||◌, Option, Some, None}
 use Rattle.c_tokens.specs.declared.span.Span.{Span}
 use Rattle.c_forms.specs.declared.operators.StorageClass.{StorageClass}
 use Rattle.c_forms.specs.declared.operators.StorageClass.TheVariants as storage

@@ -32,10 +32,7 @@ pub(crate) enum NameUse {
     /// it must be a value, and is then declared as one
     CheckedAndDeclared,
     /// it must be a value where told, and is declared after the declarator
-    Declared {
-        class: WordClass,
-        is_checked: bool,
-    },
+    Declared { class: WordClass, is_checked: bool },
 }
 
 /// What a form means to the scopes.
@@ -44,10 +41,7 @@ pub(crate) enum Meaning {
     /// nothing, and nor do the parts of the node
     Nothing,
     /// its word must have a class
-    Use {
-        word: Word,
-        wanted: WordClass,
-    },
+    Use { word: Word, wanted: WordClass },
     Identifier(Word),
     /// a scope of its own
     Scope,

@@ -16,7 +16,7 @@ use crate::meaning::{declares, inside, is_name, is_typed, meaning, name_in};
 use crate::table::{Scopes, WordClass};
 use c_forms::{DeclaratorForm, Form, ParamsForm};
 use c_tokens::{Span, Word};
-use c_trees::Tree;
+use c_trees::{Item, Tree};
 
 /// Why a walk stopped.
 #[derive(Clone, Copy, Debug, PartialEq, Eq)]
@@ -32,15 +32,14 @@ pub enum WalkStop {
 }
 
 impl Scopes {
-    /// Goes through the events of a tree, as an external declaration. The first that does not hold
-    /// is a clash.
-    pub fn walk_item(&mut self, item: &Tree) -> Result<(), WalkStop>
+    /// Goes through the events of an external declaration. The first that does not hold is a clash.
+    pub fn walk_item(&mut self, item: &Item) -> Result<(), WalkStop>
         ensures ok { OnOk result (settled (events.events item.now) self.old ≡ Scoped self.new) }
         ensures clash { IfErr result (λ stop. Stops stop (settled (events.events item.now) self.old)) }
         ensures err { OnErr result (self.new ≡ self.old) }
     {
         let steps = self.steps();
-        match self.walk(item, NameUse::Nothing) {
+        match self.walk(item.tree(), NameUse::Nothing) {
             Ok(()) => Ok(()),
             Err(stop) => {
                 self.back_to(steps);

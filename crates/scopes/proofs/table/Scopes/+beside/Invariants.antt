@@ -1,7 +1,7 @@
 use Rattle.std.proofs.Common.{◌+◌, ◌*◌, drop}
 use denote.Param.Weighed.{most}
 use Rattle.c_forms.specs.Forests.{forest}
-use Rattle.c_trees.specs.Views.{deep_tree}
+use Rattle.c_trees.specs.Deep.{deep_tree}
 use Rattle.scopes.specs.Events.{beside_name}
 use Rattle.scopes.specs.Steps.{IsUnderWay}
 use Rattle.scopes.proofs.table.Scopes.+beside.Given as goal
