@@ -75,7 +75,7 @@ pub enum Sort {
 }
 
 /// Whether and how often a part stands. All the parts of a repetition are one part of the node, a list.
-#[derive(Clone, Copy, PartialEq, Eq)]
+#[derive(Clone, Copy)]
 pub enum Repetition {
     /// absent or there
     Optional,
@@ -96,7 +96,7 @@ pub enum Repetition {
 }
 
 /// What happens to the scopes where no token stands.
-#[derive(Clone, Copy, PartialEq, Eq)]
+#[derive(Clone, Copy)]
 pub enum Event {
     /// a scope begins
     Enter,
@@ -131,7 +131,7 @@ pub enum Event {
 }
 
 /// A piece of a row: what stands one after the other in the spelling of a node.
-#[derive(Clone, Copy, PartialEq, Eq)]
+#[derive(Clone, Copy)]
 pub enum Piece {
     /// a token
     Token(Class),
@@ -156,7 +156,7 @@ pub enum Piece {
 }
 
 /// How the reader comes to a form.
-#[derive(Clone, Copy, PartialEq, Eq)]
+#[derive(Clone, Copy)]
 pub enum Role {
     /// it is one token, which the form holds
     Leafed,
@@ -181,7 +181,7 @@ pub enum Role {
 }
 
 /// What a node by itself counts.
-#[derive(Clone, Copy, PartialEq, Eq)]
+#[derive(Clone, Copy)]
 pub enum Counts {
     /// neither for size nor for height
     Nothing,

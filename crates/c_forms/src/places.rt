@@ -8,7 +8,7 @@ use crate::pieces::Sort;
 use c_tokens::{Base, Kind, MetaType};
 
 /// What a node is to the place where it stands.
-#[derive(Clone, Copy, PartialEq, Eq)]
+#[derive(Clone, Copy)]
 pub enum Occupant {
     /// as itself; the sort is the narrowest
     Sort(Sort),

@@ -9,6 +9,8 @@ mod opens;
 mod parts;
 mod rules;
 mod same;
+#[cfg(test)]
+mod tests;
 mod tree;
 
 pub use binders::bindings;

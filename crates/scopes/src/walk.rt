@@ -32,7 +32,8 @@ pub enum WalkStop {
 }
 
 impl Scopes {
-    /// Goes through the events of an external declaration. The first that does not hold is a clash.
+    /// Goes through the events of an external declaration, in source order. The first that does not hold is a clash.
+    /// After a refusal the scopes are as before.
     pub fn walk_item(&mut self, item: &Item) -> Result<(), WalkStop>
         ensures ok { OnOk result (settled (events.events item.now) self.old ≡ Scoped self.new) }
         ensures clash { IfErr result (λ stop. Stops stop (settled (events.events item.now) self.old)) }
