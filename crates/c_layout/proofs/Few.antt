@@ -1,5 +1,5 @@
 -- No row has many pieces.
-use Rattle.std.proofs.Common.{◌≡◌, ◌≤◌, nat_lt, length, ◌<◌, arith, true, refl, Bool}
+use Rattle.std.proofs.Common.{◌≡◌, ◌≤◌, nat_lt, length, ◌<◌, arith, true, false, refl, Bool}
 use borrow.Author.Tests.{ltb-true}
 use Rattle.c_tokens.specs.declared.kind.Kind.{Kind}
 use Rattle.c_tokens.specs.declared.kind.Kind.TheVariants as kind

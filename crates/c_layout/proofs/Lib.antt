@@ -1,2 +1,3 @@
 mod Few
+pub mod Tokens
 mod Worked

@@ -77,13 +77,14 @@ separator_of (Spliced separator least) = shape_if separator
 separator_of (Ended separator end_token) = shape_of separator
 separator_of _ = None
 
-abbrev pub token_in : Form → Shape → Mark
-token_in f s = mark.Token s (use_of f (class_of s))
+-- the mark of a token of a node of a form, if there is one
+abbrev pub token_in : Form → Option Shape → Option Mark
+token_in f None = None
+token_in f (Some s) = Some (mark.Token s (use_of f (class_of s)))
 
--- the token of a node of a form, if there is one
-abbrev pub tokens_in : Form → Option Shape → List Mark
-tokens_in f None = []
-tokens_in f (Some s) = token_in f s ∷ []
+abbrev pub if_any : {A : Type 0} → Option A → List A
+if_any None = []
+if_any (Some x) = x ∷ []
 
 -- a punctuator that belongs to no form
 abbrev pub plain : Punct → Mark

@@ -4,14 +4,15 @@ ghost use Rattle.std.specs.Prelude.{◌≡◌, ◌≤◌, ◌+◌, ◌++◌, [],
 ghost use Rattle.c_forms.specs.Forests.{forest};
 ghost use Rattle.c_layout.specs.Layout as layouts;
 ghost use Rattle.c_layout.specs.Layout.{heads, head_of, laid};
-ghost use Rattle.c_layout.specs.Marks.{line, tokens_in};
+ghost use Rattle.c_layout.specs.Marks.{line, if_any};
+ghost use Rattle.c_layout.specs.Spelled.{tokens, tokens_among};
 
 use crate::marks::{Mark, plain, separator_of, shape_of, token_in};
 use crate::standing::{
     GroupStanding, Standing, follows_else, is_block, standing_of_group, standing_of_part,
 };
 use c_forms::{Form, Piece};
-use c_tokens::{Memory, Punct, Shape};
+use c_tokens::{Memory, Punct};
 use c_trees::Tree;
 
 fn push(mark: Mark, marks: &mut Vec<Mark>) -> Result<(), Memory>
@@ -29,13 +30,22 @@ fn push_line(depth: u32, marks: &mut Vec<Mark>) -> Result<(), Memory>
     push(Mark::Line { depth }, marks)
 }
 
-/// Pushes the token of a node of a form, if there is one.
-fn push_token(form: Form, shape: Option<Shape>, marks: &mut Vec<Mark>) -> Result<(), Memory>
-    ensures { OnOk result (marks.new.items ≡ marks.old.items ++ tokens_in form shape) }
+fn push_any(mark: Option<Mark>, marks: &mut Vec<Mark>) -> Result<(), Memory>
+    ensures { OnOk result (marks.new.items ≡ marks.old.items ++ if_any mark) }
 {
-    match shape {
+    match mark {
         None => Ok(()),
-        Some(shape) => push(token_in(form, shape), marks),
+        Some(mark) => push(mark, marks),
+    }
+}
+
+fn push_start(starts: bool, depth: u32, marks: &mut Vec<Mark>) -> Result<(), Memory>
+    ensures { OnOk result (marks.new.items ≡ marks.old.items ++ layouts.start starts depth) }
+{
+    if starts {
+        push_line(depth, marks)
+    } else {
+        Ok(())
     }
 }
 
@@ -64,10 +74,10 @@ fn put_tree(depth: u32, tree: &Tree, marks: &mut Vec<Mark>) -> Result<(), Memory
     )
 }
 
-/// The marks of a tree in parentheses, if it holds together less tightly than is due.
+/// The marks of a part, in parentheses if it holds together less tightly than is due.
 #[cycle(put)]
-fn put_along(due: u8, depth: u32, tree: &Tree, marks: &mut Vec<Mark>) -> Result<(), Memory>
-    ensures { OnOk result (marks.new.items ≡ marks.old.items ++ layouts.along due depth (head_of tree.now)) }
+fn put_placed(due: u8, depth: u32, tree: &Tree, marks: &mut Vec<Mark>) -> Result<(), Memory>
+    ensures { OnOk result (marks.new.items ≡ marks.old.items ++ layouts.placed due depth (head_of tree.now)) }
 {
     if tree.form().level() < due {
         push(plain(Punct::LeftParen), marks)?;
@@ -80,15 +90,21 @@ fn put_along(due: u8, depth: u32, tree: &Tree, marks: &mut Vec<Mark>) -> Result<
 
 /// The marks of the body of a header.
 #[cycle(put)]
-fn put_body(goes_on: bool, depth: u32, tree: &Tree, marks: &mut Vec<Mark>) -> Result<(), Memory>
-    ensures { OnOk result (marks.new.items ≡ marks.old.items ++ layouts.body goes_on depth (head_of tree.now)) }
+fn put_body(
+    goes_on: bool,
+    due: u8,
+    depth: u32,
+    tree: &Tree,
+    marks: &mut Vec<Mark>,
+) -> Result<(), Memory>
+    ensures { OnOk result (marks.new.items ≡ marks.old.items ++ layouts.body goes_on due depth (head_of tree.now)) }
 {
     if goes_on {
-        put_tree(depth, tree, marks)
+        put_placed(due, depth, tree, marks)
     } else {
         let deep = deeper(depth)?;
         push_line(deep, marks)?;
-        put_tree(deep, tree, marks)
+        put_placed(due, deep, tree, marks)
     }
 }
 
@@ -103,82 +119,77 @@ fn put_part(
     ensures { OnOk result (marks.new.items ≡ marks.old.items ++ layouts.part standing due depth (head_of tree.now)) }
 {
     match standing {
-        Standing::Along => put_along(due, depth, tree, marks),
-        Standing::Body => put_body(is_block(tree.form()), depth, tree, marks),
+        Standing::Along => put_placed(due, depth, tree, marks),
+        Standing::Body => put_body(is_block(tree.form()), due, depth, tree, marks),
         Standing::BodyOfDo => {
-            put_body(is_block(tree.form()), depth, tree, marks)?;
+            put_body(is_block(tree.form()), due, depth, tree, marks)?;
             push_line(depth, marks)
         }
-        Standing::BodyOfElse => put_body(follows_else(tree.form()), depth, tree, marks),
+        Standing::BodyOfElse => put_body(follows_else(tree.form()), due, depth, tree, marks),
     }
 }
 
-/// The marks of trees with separators between them.
+/// The marks of elements with separators between them.
 #[cycle(put)]
 fn put_joined(
-    form: Form,
-    separator: Option<Shape>,
+    starts: bool,
+    separator: Option<Mark>,
     due: u8,
     depth: u32,
     all: &[Tree],
     marks: &mut Vec<Mark>,
 ) -> Result<(), Memory>
-    ensures { OnOk result (marks.new.items ≡ marks.old.items ++ layouts.joined (tokens_in form separator) due depth (heads (laid (forest all.now)))) }
+    ensures { OnOk result (marks.new.items ≡ marks.old.items ++ layouts.joined starts (if_any separator) due depth (heads (laid (forest all.now)))) }
 {
     match all.split_first() {
         None => Ok(()),
         Some((first, others)) => {
-            put_along(due, depth, first, marks)?;
+            push_start(starts, depth, marks)?;
+            put_placed(due, depth, first, marks)?;
             for one in others {
-                push_token(form, separator, marks)?;
-                put_along(due, depth, one, marks)?;
+                push_any(separator, marks)?;
+                push_start(starts, depth, marks)?;
+                put_placed(due, depth, one, marks)?;
             }
             Ok(())
         }
     }
 }
 
-/// The marks of trees, each on lines of its own.
+/// The marks of elements on lines of their own, one deeper, and of the line after them.
 #[cycle(put)]
-fn put_lines(depth: u32, all: &[Tree], marks: &mut Vec<Mark>) -> Result<(), Memory>
-    ensures { OnOk result (marks.new.items ≡ marks.old.items ++ layouts.lines depth (heads (laid (forest all.now)))) }
+fn put_inside(
+    separator: Option<Mark>,
+    due: u8,
+    depth: u32,
+    all: &[Tree],
+    marks: &mut Vec<Mark>,
+) -> Result<(), Memory>
+    ensures { OnOk result (marks.new.items ≡ marks.old.items ++ layouts.inside (if_any separator) due depth (heads (laid (forest all.now)))) }
 {
-    for one in all {
-        push_line(depth, marks)?;
-        put_tree(depth, one, marks)?;
-    }
-    Ok(())
-}
-
-/// The marks of trees on lines of their own, one deeper, and of the line after them.
-#[cycle(put)]
-fn put_inside(depth: u32, all: &[Tree], marks: &mut Vec<Mark>) -> Result<(), Memory>
-    ensures { OnOk result (marks.new.items ≡ marks.old.items ++ layouts.inside depth (heads (laid (forest all.now)))) }
-{
-    put_lines(deeper(depth)?, all, marks)?;
+    put_joined(true, separator, due, deeper(depth)?, all, marks)?;
     push_line(depth, marks)
 }
 
 #[cycle(put)]
 fn put_elements(
     standing: GroupStanding,
-    form: Form,
-    separator: Option<Shape>,
+    separator: Option<Mark>,
     due: u8,
     depth: u32,
     all: &[Tree],
     marks: &mut Vec<Mark>,
 ) -> Result<(), Memory>
-    ensures { OnOk result (marks.new.items ≡ marks.old.items ++ layouts.elements standing (tokens_in form separator) due depth (heads (laid (forest all.now)))) }
+    ensures { OnOk result (marks.new.items ≡ marks.old.items ++ layouts.elements standing (if_any separator) due depth (heads (laid (forest all.now)))) }
 {
     match standing {
-        GroupStanding::Along => put_joined(form, separator, due, depth, all, marks),
-        GroupStanding::Inside => put_inside(depth, all, marks),
+        GroupStanding::Along => put_joined(false, separator, due, depth, all, marks),
+        GroupStanding::Inside => put_inside(separator, due, depth, all, marks),
         GroupStanding::Declarations => match all.first() {
             None => Ok(()),
-            Some(_) => put_inside(depth, all, marks),
+            Some(_) => put_inside(separator, due, depth, all, marks),
         },
-        GroupStanding::Else => put_lines(depth, all, marks),
+        GroupStanding::Else => put_joined(true, separator, due, depth, all, marks),
     }
 }
 
@@ -199,11 +210,11 @@ fn put(
         None => Ok(()),
         Some((piece, pieces)) => match *piece {
             Piece::Token(class) => {
-                push_token(form, shape_of(class), marks)?;
+                push_any(token_in(form, shape_of(class)), marks)?;
                 put(pieces, form, parts, depth, marks)
             }
             Piece::Own => {
-                push_token(form, form.held(), marks)?;
+                push_any(token_in(form, form.held()), marks)?;
                 put(pieces, form, parts, depth, marks)
             }
             Piece::One(due, least) => match parts.split_first() {
@@ -217,8 +228,8 @@ fn put(
                 None => Ok(()),
                 Some((list, others)) => {
                     let standing = standing_of_group(due);
-                    let separator = separator_of(repetition);
-                    put_elements(standing, form, separator, least, depth, list.parts(), marks)?;
+                    let separator = token_in(form, separator_of(repetition));
+                    put_elements(standing, separator, least, depth, list.parts(), marks)?;
                     put(pieces, form, others, depth, marks)
                 }
             },
@@ -232,10 +243,13 @@ fn put(
     }
 }
 
-/// Appends the marks of an item. Where memory is wanting, some of them may have been appended.
+/// Appends the marks of an item: its tokens by the rows of the table, with the least parentheses, and between them
+/// where lines begin. Where memory is wanting, some of them may have been appended.
 pub fn lay_out(item: &Tree, marks: &mut Vec<Mark>) -> Result<(), Memory>
-    ensures { OnOk result (marks.new.items ≡ marks.old.items ++ layouts.layout item.now) }
+    ensures marks { OnOk result (marks.new.items ≡ marks.old.items ++ layouts.layout item.now) }
+    ensures tokens { OnOk result (tokens_among marks.new.items ≡ tokens_among marks.old.items ++ tokens item.now) }
 {
     push_line(0, marks)?;
-    put_tree(0, item, marks)
+    put_tree(0, item, marks)?;
+    Ok(())
 }

@@ -114,13 +114,16 @@ pub fn separator_of(repetition: Repetition) -> Option<Shape>
     }
 }
 
-/// The mark of a token of a node of a form.
-pub fn token_in(form: Form, shape: Shape) -> Mark
+/// The mark of a token of a node of a form, if there is one.
+pub fn token_in(form: Form, shape: Option<Shape>) -> Option<Mark>
     ensures { result ≡ marks.token_in form shape }
 {
-    Mark::Token {
-        shape,
-        part: use_of(form, Class::of(shape)),
+    match shape {
+        None => None,
+        Some(shape) => Some(Mark::Token {
+            shape,
+            part: use_of(form, Class::of(shape)),
+        }),
     }
 }
 
