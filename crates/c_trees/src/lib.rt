@@ -9,8 +9,6 @@ mod opens;
 mod parts;
 mod rules;
 mod same;
-#[cfg(test)]
-mod tests;
 mod tree;
 
 pub use binders::bindings;

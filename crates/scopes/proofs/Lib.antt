@@ -1,3 +1,3 @@
-mod Kept
+pub mod Kept
 mod Walks
 mod Worked

@@ -9,6 +9,3 @@ mod walk;
 pub use event::Event;
 pub use table::{Scopes, WordClass};
 pub use walk::WalkStop;
-
-#[cfg(test)]
-mod tests;

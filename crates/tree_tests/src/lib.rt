@@ -37,6 +37,10 @@ mod statement_tables;
 #[cfg(test)]
 mod step;
 #[cfg(test)]
+mod tall_trees;
+#[cfg(test)]
 mod tests;
 #[cfg(test)]
 mod walk;
+#[cfg(test)]
+mod word_table;

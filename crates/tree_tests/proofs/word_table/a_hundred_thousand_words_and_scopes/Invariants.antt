@@ -1,5 +1,5 @@
 use Rattle.std.proofs.Common.{◌<◌, length}
-use Rattle.scopes.proofs.tests.a_hundred_thousand_words_and_scopes.Given as goal
+use Rattle.tree_tests.proofs.word_table.a_hundred_thousand_words_and_scopes.Given as goal
 
 abbrev pub invariant-loop-word : goal.invariant-loop-word
 invariant-loop-word g l = 0 < length l.scopes

@@ -1,8 +1,8 @@
 //! What no clause says: that trees can be made, the highest too, and compared, copied and let go, any number of them.
 
-use crate::{Parts, Tree, TreeStop, bindings, is_same};
 use c_forms::{ExpForm, Form, GroupForm};
 use c_tokens::{Element, Kind, Span, Word};
+use c_trees::{Parts, Tree, TreeStop, bindings, is_same};
 use sqlite_items::Items;
 use std::alloc::Global;
 use std::slice;

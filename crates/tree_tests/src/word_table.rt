@@ -1,7 +1,7 @@
 //! The table of words, on words by their numbers.
 
-use crate::table::{Scopes, WordClass};
 use c_tokens::Word;
+use scopes::{Scopes, WordClass};
 use std::test::Fail;
 
 fn is_type(scopes: &Scopes, word: u32) -> bool {
@@ -50,7 +50,7 @@ fn a_copy_goes_its_own_way(rt: HostRuntime) -> Result<(), Fail> {
 }
 
 #[test]
-#[tactic(auto, using(crate::proofs::Kept::length_declared))]
+#[tactic(auto, using(scopes::proofs::Kept::length_declared))]
 fn a_hundred_thousand_words_and_scopes(rt: HostRuntime) -> Result<(), Fail> {
     let mut scopes = Scopes::new(rt.alloc());
     for word in 0..100_000 {
