@@ -130,7 +130,7 @@ hole_forms =
 
 abbrev pub group_forms : List Form
 group_forms =
-    form.Group group.List ∷ form.Group group.Row ∷ form.Group group.InitDeclarator ∷ form.Group group.Initializer ∷
+    form.Group group.List ∷ form.Group group.Rounds ∷ form.Group group.Row ∷ form.Group group.InitDeclarator ∷ form.Group group.Initializer ∷
     form.Group group.MemberDeclarator ∷ form.Group group.Width ∷ form.Group group.Members ∷ form.Group group.Enumerators ∷
     form.Group group.EnumeratorValue ∷ form.Group group.ElsePart ∷ form.Group group.MetaElsePart ∷ form.Group (group.Assignment (record { 0 = 0 })) ∷
     form.Group group.MetaValue ∷ form.Group (group.MetaParam type (record { 0 = 0 })) ∷ form.Group (group.Binder kind.Exp (record { 0 = 0 })) ∷

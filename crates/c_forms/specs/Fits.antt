@@ -5,7 +5,7 @@ use Rattle.c_forms.specs.declared.pieces.Sort.TheVariants as sort
 use Rattle.c_forms.specs.declared.pieces.Repetition.{Repetition}
 use Rattle.c_forms.specs.declared.pieces.Repetition.TheVariants.{Optional, Greedy, Due, All, Many, Spliced, Ended}
 use Rattle.c_forms.specs.declared.pieces.Piece.{Piece}
-use Rattle.c_forms.specs.declared.pieces.Piece.TheVariants.{Token, Maybe, Own, TypeTokens, KindName, One, Group, Arguments, Anything, Then}
+use Rattle.c_forms.specs.declared.pieces.Piece.TheVariants.{Token, Maybe, Own, TypeTokens, KindName, One, Group, Rest, Anything, Then}
 use Rattle.c_forms.specs.declared.forms.Form.{Form}
 use Rattle.c_forms.specs.Forests.{Forest, empty, tree}
 use Rattle.c_forms.specs.Places.{stands, joins}
@@ -65,5 +65,5 @@ fits (One due level ∷ pieces) empty = false
 fits (One due level ∷ pieces) (tree f s ps rest) = stands f due && fits pieces rest
 fits (Group r due level ∷ pieces) empty = false
 fits (Group r due level ∷ pieces) (tree f s ps rest) = is_list_of r due f ps && fits pieces rest
-fits (Arguments ∷ pieces) ts = all_stand sort.Argument ts
+fits (Rest due ∷ pieces) ts = all_stand due ts
 fits (Anything ∷ pieces) ts = true

@@ -42,6 +42,7 @@ sort_of_kind kind.Member = s.Member
 
 abbrev pub sort_of_group : GroupForm → Sort
 sort_of_group group.List = s.List
+sort_of_group group.Rounds = s.Rounds
 sort_of_group group.Row = s.Row
 sort_of_group group.InitDeclarator = s.InitDeclarator
 sort_of_group group.Initializer = s.Initializer
@@ -55,7 +56,7 @@ sort_of_group group.MetaElsePart = s.MetaElsePart
 sort_of_group (group.Assignment w) = s.Assignment
 sort_of_group group.MetaValue = s.MetaValue
 sort_of_group (group.MetaParam type name) = s.MetaParam
-sort_of_group (group.Binder k name) = s.Repeated
+sort_of_group (group.Binder k name) = s.Binder
 sort_of_group group.Elements = s.Repeated
 
 -- an integer constant is a tree of kind num and an expression
@@ -129,8 +130,7 @@ is_argument s.Item = true
 is_argument s.Specs = true
 is_argument s.Param = true
 is_argument s.Member = true
-is_argument s.List = true
-is_argument s.Row = true
+is_argument s.Rounds = true
 is_argument _ = false
 
 -- whether all that is of one sort may stand where another is due
@@ -147,7 +147,9 @@ serves sort s.Stmt = is_sort sort s.Stmt || is_sort sort s.Block
 serves sort s.BlockItem = is_sort sort s.Stmt || is_sort sort s.Block || is_sort sort s.Decl
 serves sort s.Template = is_sort sort s.Template || is_sort sort s.Shape
 serves sort s.MetaStmt = is_sort sort s.MetaStmt || is_sort sort s.MetaBlock
+serves sort s.Repeated = is_sort sort s.Repeated || is_sort sort s.Binder
 serves sort s.Argument = is_argument sort
+serves sort s.Round = is_argument sort || is_sort sort s.Row
 serves sort due = is_sort sort due
 
 -- whether one tree of a kind may stand where a sort is due, as a placeholder or call:

@@ -11,7 +11,7 @@ use Rattle.c_forms.specs.declared.pieces.Sort.TheVariants as s
 use Rattle.c_forms.specs.declared.pieces.Repetition.{Repetition}
 use Rattle.c_forms.specs.declared.pieces.Repetition.TheVariants.{All, Any, Many, Spliced, Ended}
 use Rattle.c_forms.specs.declared.pieces.Piece.{Piece}
-use Rattle.c_forms.specs.declared.pieces.Piece.TheVariants.{Token, Maybe, Own, TypeTokens, KindName, One, Group, Arguments, Anything, Then}
+use Rattle.c_forms.specs.declared.pieces.Piece.TheVariants.{Token, Maybe, Own, TypeTokens, KindName, One, Group, Rest, Anything, Then}
 use Rattle.c_forms.specs.declared.pieces.Role.{Role}
 use Rattle.c_forms.specs.declared.pieces.Role.TheVariants as role
 use Rattle.c_forms.specs.declared.places.Occupant.{Occupant}
@@ -127,7 +127,7 @@ fit f (Own ∷ ps) = fit f ps
 fit f (TypeTokens ∷ ps) = fit f ps
 fit f (KindName ∷ ps) = fit f ps
 fit f (Then e ∷ ps) = fit f ps
-fit f (Arguments ∷ ps) = true
+fit f (Rest due ∷ ps) = true
 fit f (Anything ∷ ps) = true
 
 abbrev after_key : List Piece → List Piece

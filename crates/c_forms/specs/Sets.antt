@@ -16,7 +16,7 @@ use Rattle.c_forms.specs.declared.pieces.Sort.TheVariants as s
 use Rattle.c_forms.specs.declared.pieces.Repetition.{Repetition}
 use Rattle.c_forms.specs.declared.pieces.Repetition.TheVariants.{Optional, Greedy, Due, All, Any, Many, Spliced, Ended}
 use Rattle.c_forms.specs.declared.pieces.Piece.{Piece}
-use Rattle.c_forms.specs.declared.pieces.Piece.TheVariants.{Token, Maybe, Own, TypeTokens, KindName, One, Group, Arguments, Anything, Then}
+use Rattle.c_forms.specs.declared.pieces.Piece.TheVariants.{Token, Maybe, Own, TypeTokens, KindName, One, Group, Rest, Anything, Then}
 use Rattle.c_forms.specs.declared.forms.Form.{Form}
 use Rattle.c_forms.specs.Measures.{level}
 use Rattle.c_forms.specs.Places.{serves_as_list}
@@ -134,6 +134,7 @@ starts s.MetaBlock = classes (Sign punct.LeftBrace ∷ [])
 starts s.Local = type_starts
 starts s.MetaParam = type_starts
 starts s.Repeated = classes (Word ∷ Mark mark.GroupOpen ∷ [])
+starts s.Binder = classes (Word ∷ [])
 starts s.InitDeclarator = declarator_starts
 starts s.Initializer = classes (Sign punct.Equal ∷ [])
 starts s.MemberDeclarator = class_number (Sign punct.Colon) ∷ declarator_starts
@@ -148,6 +149,8 @@ starts s.MetaValue = classes (Sign punct.Equal ∷ [])
 starts s.Element = classes (Word ∷ Sign punct.Comma ∷ Mark mark.Bind ∷ Mark mark.OneOrMore ∷ Mark mark.ZeroOrMore ∷ Mark mark.OneOrMoreBetween ∷ Mark mark.ZeroOrMoreBetween ∷ Mark mark.Maybe ∷ [])
 starts s.Argument = []
 starts s.List = []
+starts s.Rounds = []
+starts s.Round = []
 starts s.Row = []
 
 -- whether a tree of a sort may have no token
@@ -273,7 +276,7 @@ first f (KindName ∷ ps) = classes (Word ∷ [])
 first f (Then e ∷ ps) = first f ps
 first f (One due least ∷ ps) = starts due ++ given (may_be_empty due) (first f ps)
 first f (Group r due least ∷ ps) = element_starts r due ++ given (is_optional r) (first f ps)
-first f (Arguments ∷ ps) = []
+first f (Rest due ∷ ps) = []
 first f (Anything ∷ ps) = []
 
 -- whether pieces may have no token
@@ -283,7 +286,7 @@ may_all_be_empty (Maybe c ∷ ps) = may_all_be_empty ps
 may_all_be_empty (Then e ∷ ps) = may_all_be_empty ps
 may_all_be_empty (One due least ∷ ps) = may_be_empty due && may_all_be_empty ps
 may_all_be_empty (Group r due least ∷ ps) = is_optional r && (not (is_due ps) && may_all_be_empty ps)
-may_all_be_empty (Arguments ∷ ps) = true
+may_all_be_empty (Rest due ∷ ps) = true
 may_all_be_empty (Anything ∷ ps) = true
 may_all_be_empty _ = false
 
@@ -302,5 +305,5 @@ ends (KindName ∷ ps) = ends ps
 ends (Then e ∷ ps) = ends ps
 ends (One due least ∷ ps) = ends ps ++ given (may_all_be_empty ps) (goes_on due least)
 ends (Group r due least ∷ ps) = ends ps ++ given (may_all_be_empty ps) (if is_due ps then goes_on due least else part_goes_on r due least)
-ends (Arguments ∷ ps) = []
+ends (Rest due ∷ ps) = []
 ends (Anything ∷ ps) = []

@@ -227,7 +227,9 @@ pub enum HoleForm {
 pub enum GroupForm {
     /// parts that are repeated or may be absent
     List,
-    /// the parts of one repetition or option of a macro's pattern
+    /// the rounds of a repetition or option in a macro's call
+    Rounds,
+    /// the parts of one round, where it has several
     Row,
     /// a declarator and its initializer (6.5)
     InitDeclarator,

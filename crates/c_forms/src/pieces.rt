@@ -54,10 +54,15 @@ pub enum Sort {
     MetaBlock,
     Local,
     Element,
+    /// `kind::name` of a pattern
+    Binder,
     /// what a repetition or option of a pattern holds
     Repeated,
-    /// an argument of a macro's call
+    /// an argument of a macro's call: a tree, or the rounds of a repetition or option
     Argument,
+    /// a round: an argument, or several of them
+    Round,
+    Rounds,
     List,
     Row,
     InitDeclarator,
@@ -147,8 +152,8 @@ pub enum Piece {
     One(Sort, u8),
     /// a list of such parts
     Group(Repetition, Sort, u8),
-    /// arguments of a macro's call, as its pattern says
-    Arguments,
+    /// all other parts, each of a sort
+    Rest(Sort),
     /// parts of any sort
     Anything,
     /// no token

@@ -42,6 +42,7 @@ fn sort_of_group(form: GroupForm) -> Sort
 {
     match form {
         GroupForm::List => Sort::List,
+        GroupForm::Rounds => Sort::Rounds,
         GroupForm::Row => Sort::Row,
         GroupForm::InitDeclarator => Sort::InitDeclarator,
         GroupForm::Initializer => Sort::Initializer,
@@ -55,7 +56,8 @@ fn sort_of_group(form: GroupForm) -> Sort
         GroupForm::Assignment(_) => Sort::Assignment,
         GroupForm::MetaValue => Sort::MetaValue,
         GroupForm::MetaParam { .. } => Sort::MetaParam,
-        GroupForm::Binder { .. } | GroupForm::Elements => Sort::Repeated,
+        GroupForm::Binder { .. } => Sort::Binder,
+        GroupForm::Elements => Sort::Repeated,
     }
 }
 
@@ -180,7 +182,9 @@ pub fn serves(sort: Sort, due: Sort) -> bool
         Sort::BlockItem => sort == Sort::Stmt || sort == Sort::Block || sort == Sort::Decl,
         Sort::Template => sort == Sort::Template || sort == Sort::Shape,
         Sort::MetaStmt => sort == Sort::MetaStmt || sort == Sort::MetaBlock,
+        Sort::Repeated => sort == Sort::Repeated || sort == Sort::Binder,
         Sort::Argument => is_argument(sort),
+        Sort::Round => is_argument(sort) || sort == Sort::Row,
         _ => sort == due,
     }
 }
@@ -199,8 +203,7 @@ fn is_argument(sort: Sort) -> bool
         | Sort::Specs
         | Sort::Param
         | Sort::Member
-        | Sort::List
-        | Sort::Row => true,
+        | Sort::Rounds => true,
         _ => false,
     }
 }

@@ -322,6 +322,7 @@ fn group_row(form: GroupForm) -> Row
 {
     match form {
         GroupForm::List => of(Bare, 17, Nothing, LIST),
+        GroupForm::Rounds => of(Bare, 17, Nothing, ROUNDS),
         GroupForm::Row => of(Bare, 17, Nothing, ROW),
         GroupForm::InitDeclarator => of(Due, 17, Nothing, INIT_DECLARATOR),
         GroupForm::Initializer => of(Due, 17, Nothing, INITIALIZER),

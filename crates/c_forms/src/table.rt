@@ -1,7 +1,7 @@
 //! The pieces of each row.
 
 use crate::pieces::Piece::{
-    self, Anything, Arguments, Group, KindName, Maybe, One, Own, Token, TypeTokens,
+    self, Anything, Group, KindName, Maybe, One, Own, Rest, Token, TypeTokens,
 };
 use crate::pieces::Repetition::{self, All, Any, Due, Ended, Greedy, Many, Optional, Spliced};
 use crate::pieces::Sort::*;
@@ -447,7 +447,7 @@ pub const META_VALUE: &[Piece] = &[Token(EQUAL), One(MetaExp, 1)];
 
 pub const ELEMENT_LITERAL: &[Piece] = &[Own];
 
-pub const ELEMENT_BIND: &[Piece] = &[Token(BIND_MARK), One(Repeated, 0)];
+pub const ELEMENT_BIND: &[Piece] = &[Token(BIND_MARK), One(Binder, 0)];
 
 pub const ELEMENT_ONE_OR_MORE: &[Piece] = &[Token(ONE_OR_MORE), One(Repeated, 0)];
 
@@ -723,7 +723,7 @@ pub const HOLE_COMPUTED_LIST: &[Piece] = &[
 
 pub const HOLE_BINDER: &[Piece] = &[Token(BIND_MARK), KindName, Token(COLON), Token(COLON), Own];
 
-pub const CALL: &[Piece] = &[Own, Arguments];
+pub const CALL: &[Piece] = &[Own, Rest(Argument)];
 
 // Groups
 
@@ -733,4 +733,6 @@ pub const LITERAL: &[Piece] = &[Own];
 
 pub const LIST: &[Piece] = &[Anything];
 
-pub const ROW: &[Piece] = &[Arguments];
+pub const ROUNDS: &[Piece] = &[Rest(Round)];
+
+pub const ROW: &[Piece] = &[Rest(Argument)];

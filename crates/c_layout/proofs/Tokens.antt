@@ -4,7 +4,7 @@ use Rattle.c_tokens.specs.declared.token.Punct.TheVariants.{LeftParen, RightPare
 use Rattle.c_tokens.specs.declared.token.Shape.{Shape}
 use Rattle.c_tokens.specs.declared.token.Shape.TheVariants.{Punct}
 use Rattle.c_forms.specs.declared.pieces.Piece.{Piece}
-use Rattle.c_forms.specs.declared.pieces.Piece.TheVariants.{Token, Maybe, Own, TypeTokens, KindName, One, Group, Arguments, Anything, Then}
+use Rattle.c_forms.specs.declared.pieces.Piece.TheVariants.{Token, Maybe, Own, TypeTokens, KindName, One, Group, Rest, Anything, Then}
 use Rattle.c_forms.specs.declared.forms.Form.{Form}
 use Rattle.c_forms.specs.Forests.{Plain, Forest, empty, tree}
 use Rattle.c_forms.specs.Measures.{level, pieces}
@@ -114,7 +114,7 @@ put_tokens (Maybe c ∷ q) f ts a d = put_tokens q f ts a d
 put_tokens (Then e ∷ q) f ts a d = put_tokens q f ts a d
 put_tokens (TypeTokens ∷ q) f ts a d = put_tokens q f ts a d
 put_tokens (KindName ∷ q) f ts a d = put_tokens q f ts a d
-put_tokens (Arguments ∷ q) f ts a d = put_tokens q f ts a d
+put_tokens (Rest due ∷ q) f ts a d = put_tokens q f ts a d
 put_tokens (Anything ∷ q) f ts a d = put_tokens q f ts a d
 
 all_alike : (ts : Forest) → Alike ts

@@ -2,7 +2,7 @@
 use Rattle.std.specs.Prelude.{ℕ, ◌+◌, nat_lt, Bool, true, false, if◌then◌else◌, List, [], ◌∷◌, ◌++◌}
 use Rattle.c_tokens.specs.declared.token.Punct.TheVariants.{LeftParen, RightParen}
 use Rattle.c_forms.specs.declared.pieces.Piece.{Piece}
-use Rattle.c_forms.specs.declared.pieces.Piece.TheVariants.{Token, Maybe, Own, TypeTokens, KindName, One, Group, Arguments, Anything, Then}
+use Rattle.c_forms.specs.declared.pieces.Piece.TheVariants.{Token, Maybe, Own, TypeTokens, KindName, One, Group, Rest, Anything, Then}
 use Rattle.c_forms.specs.declared.forms.Form.{Form}
 use Rattle.c_forms.specs.Forests.{Plain, Forest, empty, tree}
 use Rattle.c_forms.specs.Measures.{level, pieces}
@@ -87,7 +87,7 @@ put (Maybe c ∷ q) f ls depth = put q f ls depth
 put (Then e ∷ q) f ls depth = put q f ls depth
 put (TypeTokens ∷ q) f ls depth = put q f ls depth
 put (KindName ∷ q) f ls depth = put q f ls depth
-put (Arguments ∷ q) f ls depth = put q f ls depth
+put (Rest due ∷ q) f ls depth = put q f ls depth
 put (Anything ∷ q) f ls depth = put q f ls depth
 
 abbrev pub laid : Forest → List Laid

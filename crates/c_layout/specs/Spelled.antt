@@ -4,7 +4,7 @@ use Rattle.c_tokens.specs.declared.token.Punct.TheVariants.{LeftParen, RightPare
 use Rattle.c_tokens.specs.declared.token.Shape.{Shape}
 use Rattle.c_tokens.specs.declared.token.Shape.TheVariants.{Punct}
 use Rattle.c_forms.specs.declared.pieces.Piece.{Piece}
-use Rattle.c_forms.specs.declared.pieces.Piece.TheVariants.{Token, Maybe, Own, TypeTokens, KindName, One, Group, Arguments, Anything, Then}
+use Rattle.c_forms.specs.declared.pieces.Piece.TheVariants.{Token, Maybe, Own, TypeTokens, KindName, One, Group, Rest, Anything, Then}
 use Rattle.c_forms.specs.declared.forms.Form.{Form}
 use Rattle.c_forms.specs.Forests.{Plain, Forest, empty, tree}
 use Rattle.c_forms.specs.Measures.{level, pieces}
@@ -51,7 +51,7 @@ spell (Maybe c ∷ q) f ws = spell q f ws
 spell (Then e ∷ q) f ws = spell q f ws
 spell (TypeTokens ∷ q) f ws = spell q f ws
 spell (KindName ∷ q) f ws = spell q f ws
-spell (Arguments ∷ q) f ws = spell q f ws
+spell (Rest due ∷ q) f ws = spell q f ws
 spell (Anything ∷ q) f ws = spell q f ws
 
 abbrev pub all_spelled : Forest → List Spelled

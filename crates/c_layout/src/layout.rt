@@ -237,7 +237,7 @@ fn put(
             | Piece::Then(_)
             | Piece::TypeTokens
             | Piece::KindName
-            | Piece::Arguments
+            | Piece::Rest(_)
             | Piece::Anything => put(pieces, form, parts, depth, marks),
         },
     }

@@ -1,7 +1,7 @@
 -- How many trees stand side by side.
 use Rattle.std.proofs.Common.{◌≡◌, ℕ, zero, suc, ◌&&◌, Bool, true, false, List, [], ◌∷◌, refl, length, arith, ap, add-one, sym, ◌∙◌, Option, Some, if◌then◌else◌}
 use Rattle.c_forms.specs.declared.pieces.Piece.{Piece}
-use Rattle.c_forms.specs.declared.pieces.Piece.TheVariants.{Token, Maybe, Own, TypeTokens, KindName, One, Group, Arguments, Anything, Then}
+use Rattle.c_forms.specs.declared.pieces.Piece.TheVariants.{Token, Maybe, Own, TypeTokens, KindName, One, Group, Rest, Anything, Then}
 use Rattle.c_forms.specs.declared.rules.Rule.{Rule}
 use Rattle.c_forms.specs.declared.rules.Rule.TheVariants as rule
 use Rattle.c_forms.specs.declared.forms.Form.{Form}
@@ -41,7 +41,7 @@ fits_number (One due level ∷ all) (suc n) (tree f s ps rest) a h = add-one (nu
 fits_number (Group r due level ∷ all) n empty a h = cc
 fits_number (Group r due level ∷ all) zero (tree f s ps rest) a h = cc
 fits_number (Group r due level ∷ all) (suc n) (tree f s ps rest) a h = add-one (number rest) ∙ ap suc (fits_number all n rest a (last_true (is_list_of r due f ps) (fits all rest) h))
-fits_number (Arguments ∷ all) n ts a h = cc
+fits_number (Rest due ∷ all) n ts a h = cc
 fits_number (Anything ∷ all) n ts a h = cc
 
 unbroken : (b : Bool) (o : Option Rule) → is_nothing (if b then o else Some rule.Parts) ≡ true → b ≡ true

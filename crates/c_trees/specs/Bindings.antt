@@ -1,6 +1,6 @@
 -- What the binders of a macro's pattern are bound to in a call. The parts of a call stand in the order of writing: one
--- tree for a binder, and one list for a repetition or an option, of its rounds. A round of a body with one part is that
--- part, and a round of any other body is a row of its parts.
+-- tree for a binder, and one node for a repetition or an option, over its rounds. A round of a body with one part is that
+-- part, and a round of any other body is a row of its parts. A binder inside is bound to the list of what it matched.
 use Rattle.std.specs.Prelude.{ℕ, zero, suc, ◌+◌, ◌-◌, nat_eq, nat_lt, Bool, false, if◌then◌else◌, List, [], ◌∷◌, ◌++◌, Option, Some, None}
 use Rattle.c_tokens.specs.declared.element.Element.{Element}
 use Rattle.pattern_language.specs.Patterns.{Pattern, Done, Literal, Bind, Repeat, Maybe, pattern_of}

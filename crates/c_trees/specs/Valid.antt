@@ -1,7 +1,7 @@
 -- Valid trees: no node breaks a rule of its form.
 use Rattle.std.specs.Prelude.{ℕ, zero, suc, Bool, true, false, ◌&&◌, List, [], ◌∷◌}
 use Rattle.c_forms.specs.declared.pieces.Piece.{Piece}
-use Rattle.c_forms.specs.declared.pieces.Piece.TheVariants.{Token, Maybe, Own, TypeTokens, KindName, One, Group, Arguments, Anything, Then}
+use Rattle.c_forms.specs.declared.pieces.Piece.TheVariants.{Token, Maybe, Own, TypeTokens, KindName, One, Group, Rest, Anything, Then}
 use Rattle.c_forms.specs.Forests.{Plain, Forest, empty, tree}
 use Rattle.c_forms.specs.Rules.{is_right}
 
@@ -19,7 +19,7 @@ asks_for zero (One due level ∷ pieces) = false
 asks_for (suc n) (One due level ∷ pieces) = asks_for n pieces
 asks_for zero (Group r due level ∷ pieces) = false
 asks_for (suc n) (Group r due level ∷ pieces) = asks_for n pieces
-asks_for n (Arguments ∷ pieces) = false
+asks_for n (Rest due ∷ pieces) = false
 asks_for n (Anything ∷ pieces) = false
 
 abbrev pub valid : Forest → Bool

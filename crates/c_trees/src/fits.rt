@@ -103,7 +103,7 @@ pub fn fits(pieces: &[Piece], parts: &[Tree]) -> bool
                 None => false,
                 Some((part, others)) => is_list_of(repetition, due, part) && fits(pieces, others),
             },
-            Piece::Arguments => all_stand(Sort::Argument, parts),
+            Piece::Rest(due) => all_stand(due, parts),
             Piece::Anything => true,
         },
     }

@@ -3,7 +3,7 @@
 use crate::checks::{Refused, refused};
 use crate::leaves::*;
 use crate::nodes::*;
-use crate::step::Step::{Binary, Call, Hole, List, Many, MetaUnary, Node, One, Unary};
+use crate::step::Step::{Binary, Call, Hole, List, Many, MetaUnary, Node, One, Rounds, Unary};
 use c_forms::{
     BinaryOperator, DeclaratorForm, ElementForm, ExpForm, Form, GroupForm, ItemForm, MetaStmtForm,
     MetaUnaryOperator, Rule, StmtForm, UnaryOperator,
@@ -92,6 +92,16 @@ pub static MISPLACED: &[Refused] = refused! {
     [STATIC, INT, List(2), ABSENT, TYPE_NAME] Rule::Parts;
     [STATIC, INT, List(2), SPECS] Rule::Parts;
     [STATIC, INT, List(2), X, NAMED, List(0), MEMBER_DECLARATOR, List(1), MEMBER] Rule::Parts;
+    // a binder alone stands after `$$`
+    [List(0), ELEMENTS, BIND] Rule::Parts;
+    // what is no argument of a call, by itself and in a round
+    [A, List(1), Call(1, Kind::Exp, false, false, 1)] Rule::Parts;
+    [A, B, ROW_2, Call(1, Kind::Exp, false, false, 1)] Rule::Parts;
+    [META_EMPTY, Rounds(1)] Rule::Parts;
+    [A, WIDTH, Rounds(1)] Rule::Parts;
+    [A, List(1), Rounds(1)] Rule::Parts;
+    [Hole(Kind::Exp, true, 1), Rounds(1)] Rule::Parts;
+    [A, ROW_1, ROW_1] Rule::Parts;
 };
 
 /// The rules of specifiers and declarators.

@@ -3,7 +3,7 @@
 use crate::checks::{Row, rows};
 use crate::leaves::*;
 use crate::nodes::*;
-use crate::step::Step::{Call, Hole, Id, List, MetaUnary};
+use crate::step::Step::{Call, Hole, Id, List, MetaUnary, Rounds};
 use c_forms::MetaUnaryOperator;
 use c_tokens::Kind;
 
@@ -80,13 +80,16 @@ pub static CARRIED: &[Row] = rows! {
     [A, B, ROW_2] 2 0 true false;
     [B, A, ROW_2] 2 0 true false;
     [A, ROW_1] 1 0 true false;
-    [A, B, ROW_2, C, D, ROW_2, List(2), Call(1, Kind::Exp, false, false, 1)] 5 1 false false;
-    [A, B, ROW_2, C, D, ROW_2, List(2)] 4 0 true false;
+    [A, B, ROW_2, C, D, ROW_2, Rounds(2), Call(1, Kind::Exp, false, false, 1)] 5 1 false false;
+    [A, B, ROW_2, C, D, ROW_2, Rounds(2)] 4 0 true false;
+    [Rounds(0)] 0 0 true false;
+    [A, Rounds(1)] 1 0 true false;
+    [A, Rounds(1), B, Rounds(1), Rounds(2)] 2 0 true false;
     [INT, List(1), SPECS, X, A, Call(1, Kind::Exp, false, false, 3)] 3 1 false false;
     [T, List(1), SPECS, X, A, Call(1, Kind::Exp, false, false, 3)] 3 1 false false;
-    [List(0), A, EMPTY, List(0), IF, Call(1, Kind::Stmt, false, true, 2)] 4 2 false true;
-    [List(0), A, EMPTY, List(0), IF, Call(1, Kind::Stmt, false, false, 2)] 4 2 false false;
-    [List(0), A, EMPTY, EMPTY, ELSE_PART, List(1), IF, Call(1, Kind::Stmt, false, true, 2)] 5 2 false false;
+    [Rounds(0), A, EMPTY, List(0), IF, Call(1, Kind::Stmt, false, true, 2)] 4 2 false true;
+    [Rounds(0), A, EMPTY, List(0), IF, Call(1, Kind::Stmt, false, false, 2)] 4 2 false false;
+    [Rounds(0), A, EMPTY, EMPTY, ELSE_PART, List(1), IF, Call(1, Kind::Stmt, false, true, 2)] 5 2 false false;
 };
 
 /// Calls of macros and their arguments.

@@ -23,6 +23,7 @@ pub enum Step {
     Call(u32, Kind, bool, bool, usize),
     /// A list of so many trees.
     List(usize),
+    Rounds(usize),
     Unary(UnaryOperator),
     Binary(BinaryOperator),
     Assign(AssignmentOperator),
@@ -94,6 +95,7 @@ impl Step {
                 over(call(number, kind, is_list, tail), count)
             }
             Step::List(count) => over(Form::Group(GroupForm::List), count),
+            Step::Rounds(count) => over(Form::Group(GroupForm::Rounds), count),
             Step::Unary(operator) => over(Form::Exp(ExpForm::Unary(operator)), 1),
             Step::Binary(operator) => over(Form::Exp(ExpForm::Binary(operator)), 2),
             Step::Assign(operator) => over(Form::Exp(ExpForm::Assign(operator)), 2),

@@ -74,7 +74,7 @@ fn two_binders_in_three_rounds(rt: HostRuntime) -> Result<(), Fail> {
         let round = Tree::checked(alloc, Form::Group(GroupForm::Row), HERE, parts)?;
         rounds.push(alloc, round)?;
     }
-    let part = Tree::list(alloc, HERE, rounds)?;
+    let part = Tree::checked(alloc, Form::Group(GroupForm::Rounds), HERE, rounds)?;
     let all = bindings(alloc, slice::from_ref(&pattern), slice::from_ref(&part))?;
     assert_eq!(rt; all.len(), 2);
     for (height, list) in all.as_slice().iter().enumerate() {
