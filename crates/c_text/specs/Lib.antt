@@ -1,0 +1,3 @@
+pub mod Texts
+pub mod Spacing
+pub mod Text
