@@ -137,6 +137,8 @@ is_argument _ = false
 abbrev pub serves : Sort → Sort → Bool
 serves sort s.Exp = is_sort sort s.Exp || is_sort sort s.Num
 serves sort s.DeclaredId = is_sort sort s.Id
+serves sort s.ParameterId = is_sort sort s.Id
+serves sort s.EnumeratorId = is_sort sort s.Id
 serves sort s.Spec = is_sort sort s.Spec || is_sort sort s.PlainSpec || is_sort sort s.Qualifier
 serves sort s.PlainSpec = is_sort sort s.PlainSpec || is_sort sort s.Qualifier
 serves sort s.AbstractDeclarator = is_sort sort s.Declarator

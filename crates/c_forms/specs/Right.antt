@@ -136,6 +136,7 @@ after_key _ = []
 
 abbrev is_leaf : List Piece → Bool
 is_leaf (Own ∷ []) = true
+is_leaf (Own ∷ (Then e ∷ [])) = true
 is_leaf _ = false
 
 abbrev is_led : List Piece → Bool
@@ -149,8 +150,8 @@ is_marked (One s.Id l ∷ (Token c ∷ ps)) = true
 is_marked _ = false
 
 abbrev is_entered : List Piece → Bool
-is_entered (Token c ∷ (One s.TypeName l ∷ ps)) = true
-is_entered (Token c ∷ (Token d ∷ (One s.TypeName l ∷ ps))) = true
+is_entered (Token c ∷ (Then e ∷ (One s.TypeName l ∷ ps))) = true
+is_entered (Token c ∷ (Token d ∷ (Then e ∷ (One s.TypeName l ∷ ps)))) = true
 is_entered _ = false
 
 -- what begins and goes on with a form is among what begins and goes on with its sort
@@ -160,10 +161,15 @@ is_within own f ps = within (first f ps) (starts own) && within (ends ps) (goes_
 abbrev right_tail : Sort → Form → List Piece → Bool
 right_tail own f ps = goes_on_by own f ps && (not (nat_lt (left_level ps) (level f)) && fit f (after_key ps))
 
+abbrev are_events : List Piece → Bool
+are_events [] = true
+are_events (Then e ∷ ps) = are_events ps
+are_events _ = false
+
 -- the last operand, where it is of the form's own sort
 abbrev last_clear : Sort → Form → List Punct → List Piece → Bool
 last_clear own f all [] = true
-last_clear own f all (One due k ∷ []) = not (is_sort due own) || all_clear own (level f) k all
+last_clear own f all (One due k ∷ ps) = if are_events ps then not (is_sort due own) || all_clear own (level f) k all else last_clear own f all ps
 last_clear own f all (p ∷ ps) = last_clear own f all ps
 
 abbrev pub is_right_as : Role → Sort → Form → List Punct → List Piece → Bool

@@ -11,8 +11,12 @@ pub enum Sort {
     Num,
     /// an identifier that is a part, whatever it stands for elsewhere
     Id,
-    /// an identifier that is declared or is a parameter of an identifier list
+    /// an identifier that a declarator declares
     DeclaredId,
+    /// a parameter of an identifier list (6.5.4.3)
+    ParameterId,
+    /// an enumerator's name (6.5.2.2)
+    EnumeratorId,
     /// a string literal that is a part
     Literal,
     TypeName,
@@ -129,6 +133,8 @@ pub enum Event {
     Seal,
     /// the parameters end
     Close,
+    /// the declarator that follows must be a function's, since no specifiers stand before it (6.7.1)
+    FunctionDue,
     /// the body of a function begins
     Open,
     /// the body of a function ends

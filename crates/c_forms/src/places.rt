@@ -171,7 +171,7 @@ pub fn serves(sort: Sort, due: Sort) -> bool
 {
     match due {
         Sort::Exp => sort == Sort::Exp || sort == Sort::Num,
-        Sort::DeclaredId => sort == Sort::Id,
+        Sort::DeclaredId | Sort::ParameterId | Sort::EnumeratorId => sort == Sort::Id,
         Sort::Spec => sort == Sort::Spec || sort == Sort::PlainSpec || sort == Sort::Qualifier,
         Sort::PlainSpec => sort == Sort::PlainSpec || sort == Sort::Qualifier,
         Sort::AbstractDeclarator

@@ -8,7 +8,7 @@ use crate::forms::{
     DeclaratorForm, ElementForm, ExpForm, Form, GroupForm, HoleForm, InitForm, ItemForm,
     MetaExpForm, MetaStmtForm, ParamsForm, SpecForm, StmtForm, TemplateForm,
 };
-use crate::operators::BinaryOperator;
+use crate::operators::{BinaryOperator, StorageClass};
 use crate::pieces::Counts::{self, Nothing, Size, SizeAndHeight};
 use crate::pieces::Role::{
     self, Bare, Carried, Declared, Due, Entered, Leafed, Led, Marked, Prefixed, Tailed,
@@ -157,13 +157,22 @@ fn exp_row(form: ExpForm) -> Row
     }
 }
 
+fn storage_row(class: StorageClass) -> Row
+    ensures { shown result ≡ rows.storage_row class }
+{
+    match class {
+        StorageClass::Typedef => of(Leafed, 17, Size, TYPEDEF_KEY),
+        _ => of(Leafed, 17, Size, TOKEN_SPEC),
+    }
+}
+
 fn spec_row(form: SpecForm) -> Row
     ensures { shown result ≡ rows.spec_row form }
 {
     match form {
-        SpecForm::Storage(_) | SpecForm::Qualifier(_) | SpecForm::Basic(_) => of(
-            Leafed, 17, Size, TOKEN_SPEC,
-        ),
+        SpecForm::Storage(class) => storage_row(class),
+        SpecForm::Qualifier(_) => of(Leafed, 17, Size, TOKEN_SPEC),
+        SpecForm::Basic(_) => of(Leafed, 17, Size, BASIC_TYPE),
         SpecForm::Typedef(_) => of(Due, 17, Size, TYPEDEF_NAME),
         SpecForm::StructOf(_) => of(Prefixed, 17, SizeAndHeight, STRUCT_OF),
         SpecForm::EnumOf => of(Prefixed, 17, SizeAndHeight, ENUM_OF),

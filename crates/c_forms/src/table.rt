@@ -1,7 +1,8 @@
 //! The pieces of each row.
 
+use crate::pieces::Event::*;
 use crate::pieces::Piece::{
-    self, Anything, Group, KindName, Maybe, One, Own, Rest, Token, TypeTokens,
+    self, Anything, Group, KindName, Maybe, One, Own, Rest, Then, Token, TypeTokens,
 };
 use crate::pieces::Repetition::{self, All, Any, Due, Ended, Greedy, Many, Optional, Spliced};
 use crate::pieces::Sort::*;
@@ -185,13 +186,17 @@ pub const SIZEOF_EXP: &[Piece] = &[Token(SIZEOF_KEY), One(Exp, 15)];
 pub const SIZEOF_TYPE: &[Piece] = &[
     Token(SIZEOF_KEY),
     Token(LEFT_PAREN),
+    Then(Aside),
     One(TypeName, 0),
+    Then(Resume),
     Token(RIGHT_PAREN),
 ];
 
 pub const CAST: &[Piece] = &[
     Token(LEFT_PAREN),
+    Then(Aside),
     One(TypeName, 0),
+    Then(Resume),
     Token(RIGHT_PAREN),
     One(Exp, 14),
 ];
@@ -236,14 +241,28 @@ pub const SPECS: &[Piece] = &[Group(All, PlainSpec, 0)];
 
 pub const TOKEN_SPEC: &[Piece] = &[Own];
 
-pub const TYPEDEF_NAME: &[Piece] = &[Own];
+pub const TYPEDEF_KEY: &[Piece] = &[Own, Then(Typedef)];
 
-pub const STRUCT_OF: &[Piece] = &[Own, Group(Optional, Id, 0), Group(Due, Members, 0)];
+pub const BASIC_TYPE: &[Piece] = &[Own, Then(Typed)];
+
+pub const TYPEDEF_NAME: &[Piece] = &[Own, Then(SoleType)];
+
+pub const STRUCT_OF: &[Piece] = &[
+    Own,
+    Then(Aside),
+    Group(Optional, Id, 0),
+    Group(Due, Members, 0),
+    Then(Resume),
+    Then(SoleType),
+];
 
 pub const ENUM_OF: &[Piece] = &[
     Token(ENUM_KEY),
+    Then(Aside),
     Group(Optional, Id, 0),
     Group(Due, Enumerators, 0),
+    Then(Resume),
+    Then(SoleType),
 ];
 
 pub const MEMBERS: &[Piece] = &[
@@ -256,11 +275,12 @@ pub const MEMBER: &[Piece] = &[
     Group(All, PlainSpec, 0),
     Group(SPLICED_SOME_WITH_COMMAS, MemberDeclarator, 0),
     Token(SEMICOLON),
+    Then(Begin),
 ];
 
-pub const MEMBER_DECLARATOR: &[Piece] = &[One(MemberName, 1), Group(Optional, Width, 0)];
+pub const MEMBER_DECLARATOR: &[Piece] = &[One(MemberName, 1), Group(Due, Width, 0)];
 
-pub const WIDTH: &[Piece] = &[Token(COLON), One(Exp, 3)];
+pub const WIDTH: &[Piece] = &[Token(COLON), Then(Aside), One(Exp, 3), Then(Resume)];
 
 pub const ENUMERATORS: &[Piece] = &[
     Token(LEFT_BRACE),
@@ -268,9 +288,13 @@ pub const ENUMERATORS: &[Piece] = &[
     Token(RIGHT_BRACE),
 ];
 
-pub const ENUMERATOR: &[Piece] = &[One(Id, 0), Group(Optional, EnumeratorValue, 0)];
+pub const ENUMERATOR: &[Piece] = &[
+    One(EnumeratorId, 0),
+    Group(Optional, EnumeratorValue, 0),
+    Then(DeclareValue),
+];
 
-pub const ENUMERATOR_VALUE: &[Piece] = &[Token(EQUAL), One(Exp, 3)];
+pub const ENUMERATOR_VALUE: &[Piece] = &[Token(EQUAL), Then(Aside), One(Exp, 3), Then(Resume)];
 
 // Declarators and initializers (6.5.4, 6.5.5, 6.5.7)
 
@@ -282,29 +306,41 @@ pub const POINTER: &[Piece] = &[
     Token(STAR),
     Group(ANY, Qualifier, 0),
     One(InnerDeclarator, 1),
+    Then(Seal),
 ];
 
 pub const ARRAY_OF: &[Piece] = &[
     One(InnerDeclarator, 2),
     Token(LEFT_BRACKET),
+    Then(Aside),
     Group(Optional, Exp, 3),
+    Then(Resume),
+    Then(Seal),
     Token(RIGHT_BRACKET),
 ];
 
 pub const FUNCTION_OF: &[Piece] = &[
     One(InnerDeclarator, 2),
     Token(LEFT_PAREN),
+    Then(Aside),
+    Then(Enter),
     One(Params, 0),
     Token(RIGHT_PAREN),
+    Then(Close),
 ];
 
-pub const IDS: &[Piece] = &[Group(ANY_WITH_COMMAS, DeclaredId, 0)];
+pub const IDS: &[Piece] = &[Group(ANY_WITH_COMMAS, ParameterId, 0)];
 
 pub const TYPED: &[Piece] = &[Group(PARAMETERS, Param, 0)];
 
 pub const TYPED_AND_MORE: &[Piece] = &[Group(PARAMETERS, Param, 0), Token(COMMA), Token(ELLIPSIS)];
 
-pub const PARAM: &[Piece] = &[Group(All, Spec, 0), One(ParamDeclarator, 1)];
+pub const PARAM: &[Piece] = &[
+    Group(All, Spec, 0),
+    One(ParamDeclarator, 1),
+    Then(DeclareValue),
+    Then(Begin),
+];
 
 pub const INIT_ONE: &[Piece] = &[One(Exp, 2)];
 
@@ -319,11 +355,16 @@ pub const DECL: &[Piece] = &[
     Group(All, Spec, 0),
     Group(SPLICED_WITH_COMMAS, InitDeclarator, 0),
     Token(SEMICOLON),
+    Then(Begin),
 ];
 
-pub const INIT_DECLARATOR: &[Piece] = &[One(Declarator, 1), Group(Optional, Initializer, 0)];
+pub const INIT_DECLARATOR: &[Piece] = &[
+    One(Declarator, 1),
+    Then(Declare),
+    Group(Optional, Initializer, 0),
+];
 
-pub const INITIALIZER: &[Piece] = &[Token(EQUAL), One(Init, 0)];
+pub const INITIALIZER: &[Piece] = &[Token(EQUAL), Then(Aside), One(Init, 0), Then(Resume)];
 
 // Statements (6.6)
 
@@ -339,7 +380,9 @@ pub const EMPTY: &[Piece] = &[Token(SEMICOLON)];
 
 pub const BLOCK: &[Piece] = &[
     Token(LEFT_BRACE),
+    Then(Enter),
     Group(SPLICED, BlockItem, 0),
+    Then(Leave),
     Token(RIGHT_BRACE),
 ];
 
@@ -405,8 +448,10 @@ pub const RETURN: &[Piece] = &[Token(RETURN_KEY), Group(Optional, Exp, 1), Token
 pub const FUNCTION: &[Piece] = &[
     Group(Any, Spec, 0),
     One(Declarator, 1),
+    Then(Open),
     Group(ANY, Decl, 0),
     One(Block, 0),
+    Then(Shut),
 ];
 
 pub const DECLARATION: &[Piece] = &[One(Decl, 0)];
