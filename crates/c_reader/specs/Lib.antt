@@ -1,0 +1,3 @@
+pub mod States
+pub mod Tokens
+pub mod Readers
