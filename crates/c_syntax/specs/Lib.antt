@@ -1,0 +1,4 @@
+pub mod Allowed
+pub mod Reading
+pub mod Grammar
+pub mod Spells
