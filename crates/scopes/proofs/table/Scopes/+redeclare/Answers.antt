@@ -1,6 +1,6 @@
 use Rattle.std.proofs.Common.{refl, subst, ◌+◌, drop}
 use Rattle.c_forms.specs.Forests.{forest}
-use Rattle.scopes.specs.Meanings.{declares, name_in}
+use Rattle.scope_meanings.specs.Meanings.{declares, name_in}
 use Rattle.scopes.specs.Events.{declared_as, words}
 use Rattle.scopes.specs.Steps.{IsUnderWay}
 use Rattle.scopes.proofs.Walks.{forest_next, further, stops_there, goes_out, goes_both, goes_stops, goes_along, redeclared_parts}

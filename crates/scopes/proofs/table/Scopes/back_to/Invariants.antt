@@ -1,5 +1,5 @@
 use Rattle.std.proofs.Common.{◌≡◌, List}
-use Rattle.scopes.specs.Frames.{Frame, steps_in}
+use Rattle.scope_tables.specs.Frames.{Frame, steps_in}
 use Rattle.scopes.specs.Steps.{IsLater}
 use Rattle.scopes.proofs.table.Scopes.back_to.Given as goal
 
