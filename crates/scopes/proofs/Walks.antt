@@ -9,8 +9,8 @@ use Rattle.c_tokens.specs.declared.token.Word.{Word}
 use Rattle.scopes.specs.declared.event.Event.{Event}
 use Rattle.scopes.specs.declared.event.Event.TheVariants.{Enter, Leave, Must, Declare}
 use Rattle.scope_tables.specs.declared.table.WordClass.{WordClass}
-use Rattle.scopes.specs.declared.walk.WalkStop.{WalkStop}
-use Rattle.scopes.specs.declared.walk.WalkStop.TheVariants.{Clash, Memory}
+use Rattle.scopes.specs.declared.event.WalkStop.{WalkStop}
+use Rattle.scopes.specs.declared.event.WalkStop.TheVariants.{Clash, Memory}
 use Rattle.scope_tables.specs.Frames.{Frame, class_of, entered, left, declared, undone, steps_in}
 use Rattle.scope_meanings.specs.declared.meaning.NameUse.{NameUse}
 use Rattle.scope_meanings.specs.declared.meaning.Meaning.TheVariants as means

@@ -6,8 +6,8 @@ use Rattle.scope_tables.specs.declared.table.WordClass.{WordClass}
 use Rattle.scope_tables.specs.declared.table.WordClass.TheVariants.{TypeName, Value}
 use Rattle.scopes.specs.declared.event.Event.{Event}
 use Rattle.scopes.specs.declared.event.Event.TheVariants.{Enter, Leave, Must, Declare}
-use Rattle.scopes.specs.declared.walk.WalkStop.{WalkStop}
-use Rattle.scopes.specs.declared.walk.WalkStop.TheVariants.{Clash, Memory}
+use Rattle.scopes.specs.declared.event.WalkStop.{WalkStop}
+use Rattle.scopes.specs.declared.event.WalkStop.TheVariants.{Clash, Memory}
 use Rattle.scope_tables.specs.Frames.{Frame, class_of, entered, left, declared}
 
 abbrev pub is_same : WordClass → WordClass → Bool

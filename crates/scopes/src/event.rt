@@ -1,4 +1,4 @@
-//! What happens to scopes.
+//! What happens to scopes, and why a walk through it stops.
 
 use c_tokens::{Span, Word};
 use scope_tables::WordClass;
@@ -21,4 +21,17 @@ pub enum Event {
         word: Word,
         class: WordClass,
     },
+}
+
+/// Why a walk stopped.
+#[derive(Clone, Copy, Debug, PartialEq, Eq)]
+pub enum WalkStop {
+    /// A word has another class than the one that it must have where it stands.
+    Clash {
+        word: Word,
+        wanted: WordClass,
+        found: WordClass,
+        span: Span,
+    },
+    Memory,
 }

@@ -4,10 +4,10 @@ use Rattle.c_forms.specs.Forests.{forest}
 use Rattle.c_trees.specs.Deep.{deep_tree}
 use Rattle.scopes.specs.Events.{in_order, each}
 use Rattle.scopes.specs.Steps.{IsUnderWay}
-use Rattle.scopes.proofs.table.Scopes.+walk.Given as goal
+use Rattle.scopes.proofs.walk.+walk.Given as goal
 
 abbrev pub invariant-walk_all-loop-tree : goal.invariant-walk_all-loop-tree
-invariant-walk_all-loop-tree l = IsUnderWay l.initial.self l.self (in_order (each l.used (forest l.trees))) (in_order (each l.used (forest (drop l.tree-index l.trees))))
+invariant-walk_all-loop-tree l = IsUnderWay l.initial.table l.table (in_order (each l.used (forest l.trees))) (in_order (each l.used (forest (drop l.tree-index l.trees))))
 
 abbrev pub decreases-walk : goal.decreases-walk
 decreases-walk l = 4 * deep_tree l.tree.now

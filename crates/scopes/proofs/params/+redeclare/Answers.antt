@@ -4,18 +4,18 @@ use Rattle.scope_meanings.specs.Meanings.{declares, name_in}
 use Rattle.scopes.specs.Events.{declared_as, words}
 use Rattle.scopes.specs.Steps.{IsUnderWay}
 use Rattle.scopes.proofs.Walks.{forest_next, further, stops_there, goes_out, goes_both, goes_stops, goes_along, redeclared_parts}
-use Rattle.scopes.proofs.table.Scopes.+redeclare.Goals as goal
+use Rattle.scopes.proofs.params.+redeclare.Goals as goal
 
 pub redeclare-returns-in_err-redeclare_one : goal.redeclare-returns-in_err-redeclare_one
 redeclare-returns-in_err-redeclare_one t c =
     goes_out c.from_residual.ensures.1
     (stops_there (words c.args.used (forest (drop (c.loop-tree.tree-index + 1) c.args.trees.now))) c.in_err-redeclare_one.ensures
-    (subst (λ others. IsUnderWay c.args.self.now c.loop-tree.self (words c.args.used (forest c.args.trees.now)) (words c.args.used others)) (forest_next c.args.trees.now c.loop-tree.tree-index c.tree-item.result c.loop-tree-test.true c.tree-item.is) c.loop-tree.invariant))
+    (subst (λ others. IsUnderWay c.args.table.now c.loop-tree.table (words c.args.used (forest c.args.trees.now)) (words c.args.used others)) (forest_next c.args.trees.now c.loop-tree.tree-index c.tree-item.result c.loop-tree-test.true c.tree-item.is) c.loop-tree.invariant))
 
 pub redeclare-loop-tree-preserved : goal.redeclare-loop-tree-preserved
 redeclare-loop-tree-preserved t c =
     further (words c.args.used (forest (drop (c.loop-tree.tree-index + 1) c.args.trees.now))) c.in_ok-redeclare_one.ensures
-    (subst (λ others. IsUnderWay c.args.self.now c.loop-tree.self (words c.args.used (forest c.args.trees.now)) (words c.args.used others)) (forest_next c.args.trees.now c.loop-tree.tree-index c.tree-item.result c.loop-tree-test.true c.tree-item.is) c.loop-tree.invariant)
+    (subst (λ others. IsUnderWay c.args.table.now c.loop-tree.table (words c.args.used (forest c.args.trees.now)) (words c.args.used others)) (forest_next c.args.trees.now c.loop-tree.tree-index c.tree-item.result c.loop-tree-test.true c.tree-item.is) c.loop-tree.invariant)
 
 pub redeclare_one-returns-in_err-redeclare-in-Parts : goal.redeclare_one-returns-in_err-redeclare-in-Parts
 redeclare_one-returns-in_err-redeclare-in-Parts t c =

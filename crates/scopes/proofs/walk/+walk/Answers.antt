@@ -4,7 +4,7 @@ use Rattle.scope_meanings.specs.Meanings.{declares, name_in}
 use Rattle.scopes.specs.Events.{declared_as, in_order, each}
 use Rattle.scopes.specs.Steps.{IsUnderWay}
 use Rattle.scopes.proofs.Walks.{forest_next, further, stops_there, goes_out, goes_both, goes_stops, goes_along, goes_scope, goes_into, walked_parts, function_is}
-use Rattle.scopes.proofs.table.Scopes.+walk.Goals as goal
+use Rattle.scopes.proofs.walk.+walk.Goals as goal
 
 pub walk-returns-in_err-walk_all-in-Parts : goal.walk-returns-in_err-walk_all-in-Parts
 walk-returns-in_err-walk_all-in-Parts t c =
@@ -21,12 +21,12 @@ pub walk_all-returns-in_err-walk : goal.walk_all-returns-in_err-walk
 walk_all-returns-in_err-walk t c =
     goes_out c.from_residual.ensures.1
     (stops_there (in_order (each c.args.used (forest (drop (c.loop-tree.tree-index + 1) c.args.trees.now)))) c.in_err-walk.ensures
-    (subst (λ others. IsUnderWay c.args.self.now c.loop-tree.self (in_order (each c.args.used (forest c.args.trees.now))) (in_order (each c.args.used others))) (forest_next c.args.trees.now c.loop-tree.tree-index c.tree-item.result c.loop-tree-test.true c.tree-item.is) c.loop-tree.invariant))
+    (subst (λ others. IsUnderWay c.args.table.now c.loop-tree.table (in_order (each c.args.used (forest c.args.trees.now))) (in_order (each c.args.used others))) (forest_next c.args.trees.now c.loop-tree.tree-index c.tree-item.result c.loop-tree-test.true c.tree-item.is) c.loop-tree.invariant))
 
 pub walk_all-loop-tree-preserved : goal.walk_all-loop-tree-preserved
 walk_all-loop-tree-preserved t c =
     further (in_order (each c.args.used (forest (drop (c.loop-tree.tree-index + 1) c.args.trees.now)))) c.in_ok-walk.ensures
-    (subst (λ others. IsUnderWay c.args.self.now c.loop-tree.self (in_order (each c.args.used (forest c.args.trees.now))) (in_order (each c.args.used others))) (forest_next c.args.trees.now c.loop-tree.tree-index c.tree-item.result c.loop-tree-test.true c.tree-item.is) c.loop-tree.invariant)
+    (subst (λ others. IsUnderWay c.args.table.now c.loop-tree.table (in_order (each c.args.used (forest c.args.trees.now))) (in_order (each c.args.used others))) (forest_next c.args.trees.now c.loop-tree.tree-index c.tree-item.result c.loop-tree-test.true c.tree-item.is) c.loop-tree.invariant)
 
 pub walk_scope-returns-in_err-walk_all : goal.walk_scope-returns-in_err-walk_all
 walk_scope-returns-in_err-walk_all t c = goes_out c.from_residual-in_err-walk_all.ensures.1 (goes_into c.requires c.in_ok-begin.ensures.ok c.in_err-walk_all.ensures)
