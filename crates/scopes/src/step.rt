@@ -28,7 +28,12 @@ pub(crate) fn begin(table: &mut ScopeTable) -> Result<(), WalkStop>
 }
 
 /// An identifier that is used so.
-pub(crate) fn meet(table: &mut ScopeTable, word: Word, used: NameUse, span: Span) -> Result<(), WalkStop>
+pub(crate) fn meet(
+    table: &mut ScopeTable,
+    word: Word,
+    used: NameUse,
+    span: Span,
+) -> Result<(), WalkStop>
     requires { 0 < length table.old }
     ensures { Goes result (events.at_identifier used word span) table.old table.new }
 {
@@ -56,7 +61,12 @@ pub(crate) fn check_name(table: &ScopeTable, parts: &[Tree]) -> Result<(), WalkS
 }
 
 /// A word that must have a class.
-pub(crate) fn must(table: &ScopeTable, word: Word, wanted: WordClass, span: Span) -> Result<(), WalkStop>
+pub(crate) fn must(
+    table: &ScopeTable,
+    word: Word,
+    wanted: WordClass,
+    span: Span,
+) -> Result<(), WalkStop>
     ensures { Goes result (event.Must word wanted span ∷ []) table.now table.now }
 {
     let found = table.class(word);
@@ -72,7 +82,11 @@ pub(crate) fn must(table: &ScopeTable, word: Word, wanted: WordClass, span: Span
     }
 }
 
-pub(crate) fn declare_as(table: &mut ScopeTable, class: Option<WordClass>, parts: &[Tree]) -> Result<(), WalkStop>
+pub(crate) fn declare_as(
+    table: &mut ScopeTable,
+    class: Option<WordClass>,
+    parts: &[Tree],
+) -> Result<(), WalkStop>
     requires { 0 < length table.old }
     ensures { Goes result (events.declared_as class (meanings.name_in (forest parts.now))) table.old table.new }
 {
@@ -82,7 +96,11 @@ pub(crate) fn declare_as(table: &mut ScopeTable, class: Option<WordClass>, parts
     }
 }
 
-pub(crate) fn declare_name(table: &mut ScopeTable, name: Option<Name>, class: WordClass) -> Result<(), WalkStop>
+pub(crate) fn declare_name(
+    table: &mut ScopeTable,
+    name: Option<Name>,
+    class: WordClass,
+) -> Result<(), WalkStop>
     requires { 0 < length table.old }
     ensures { Goes result (events.declared class name) table.old table.new }
 {
@@ -92,7 +110,11 @@ pub(crate) fn declare_name(table: &mut ScopeTable, name: Option<Name>, class: Wo
     }
 }
 
-pub(crate) fn declare_word(table: &mut ScopeTable, word: Word, class: WordClass) -> Result<(), WalkStop>
+pub(crate) fn declare_word(
+    table: &mut ScopeTable,
+    word: Word,
+    class: WordClass,
+) -> Result<(), WalkStop>
     requires { 0 < length table.old }
     ensures { Goes result (event.Declare word class ∷ []) table.old table.new }
 {

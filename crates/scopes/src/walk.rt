@@ -82,7 +82,12 @@ fn walk_function(table: &mut ScopeTable, parts: &[Tree], used: NameUse) -> Resul
 /// The body of a function, with what its parameters declare there.
 #[cycle(walk)]
 #[tactic(auto, using(c_trees::specs::Depths::most_deep))]
-fn walk_body(table: &mut ScopeTable, parts: &[Tree], others: &[Tree], used: NameUse) -> Result<(), WalkStop>
+fn walk_body(
+    table: &mut ScopeTable,
+    parts: &[Tree],
+    others: &[Tree],
+    used: NameUse,
+) -> Result<(), WalkStop>
     requires { 0 < length table.old }
     ensures { Goes result (events.body (forest parts.now) (events.each used (forest others.now))) table.old table.new }
 {
