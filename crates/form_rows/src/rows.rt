@@ -4,17 +4,16 @@ ghost use Rattle.std.specs.Prelude.{◌≡◌};
 ghost use Rattle.c_forms.specs.Rows as rows;
 ghost use Rattle.c_forms.specs.Rows.{shown};
 
-use crate::forms::{
-    DeclaratorForm, ElementForm, ExpForm, Form, GroupForm, HoleForm, InitForm, ItemForm,
-    MetaExpForm, MetaStmtForm, ParamsForm, SpecForm, StmtForm, TemplateForm,
-};
-use crate::operators::{BinaryOperator, StorageClass};
-use crate::pieces::Counts::{self, Nothing, Size, SizeAndHeight};
-use crate::pieces::Role::{
+use c_forms::Counts::{self, Nothing, Size, SizeAndHeight};
+use c_forms::Role::{
     self, Bare, Carried, Declared, Due, Entered, Leafed, Led, Marked, Prefixed, Tailed,
 };
-use crate::pieces::{Piece, Row};
-use crate::table::*;
+use c_forms::table::*;
+use c_forms::{
+    BinaryOperator, DeclaratorForm, ElementForm, ExpForm, Form, GroupForm, HoleForm, InitForm,
+    ItemForm, MetaExpForm, MetaStmtForm, ParamsForm, Piece, Row, SpecForm, StmtForm, StorageClass,
+    TemplateForm,
+};
 use c_tokens::Kind;
 
 fn of(role: Role, level: u8, counts: Counts, pieces: &'static [Piece]) -> Row
