@@ -67,13 +67,7 @@ fn deeper(depth: u32) -> Result<u32, Memory>
 fn put_tree(depth: u32, tree: &Tree, marks: &mut Vec<Mark>) -> Result<(), Memory>
     ensures { OnOk result (marks.new.items ≡ marks.old.items ++ layouts.laid_at depth tree.now) }
 {
-    put(
-        pieces(tree.form()),
-        tree.form(),
-        tree.parts(),
-        depth,
-        marks,
-    )
+    put(pieces(tree.form()), tree.form(), tree.parts(), depth, marks)
 }
 
 /// The marks of a part, in parentheses if it holds together less tightly than is due.

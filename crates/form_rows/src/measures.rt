@@ -28,21 +28,21 @@ pub fn star(form: Form) -> u32
     }
 }
 
-/// How tightly it holds together, from 1 to 17 (6.3).
+/// How tightly a node holds together, from 1 to 17 (6.3).
 pub fn level(form: Form) -> u8
     ensures { result ≡ measures.level form }
 {
     row(form).level
 }
 
-/// What stands one after the other in its spelling.
+/// What stands one after the other in the spelling of a node.
 pub fn pieces(form: Form) -> &'static [Piece]
     ensures { result.now ≡ measures.pieces form }
 {
     row(form).pieces
 }
 
-/// Whether it is neither a placeholder, nor a call of a macro, nor a definition of the macro notation.
+/// Whether a node is neither a placeholder, nor a call of a macro, nor a definition of the macro notation.
 pub fn is_plain(form: Form) -> bool
     ensures { result ≡ measures.is_plain form }
 {
@@ -53,8 +53,8 @@ pub fn is_plain(form: Form) -> bool
     }
 }
 
-/// Whether an `else` after it would belong to its last part if it can belong to anything in it. Where the last part
-/// is a list without elements, the `else` belongs to the node itself.
+/// Whether an `else` after a node would belong to its last part if it can belong to anything in it. Where the last
+/// part is a list without elements, the `else` belongs to the node itself.
 pub fn ends_as_last_part(form: Form) -> bool
     ensures { result ≡ measures.ends_as_last_part form }
 {

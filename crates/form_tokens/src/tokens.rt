@@ -260,7 +260,7 @@ fn held_by_group(form: GroupForm) -> Option<Shape>
     }
 }
 
-/// The token that the form holds, where it holds one and that token is known without the table of macros.
+/// The token that a form holds, where it holds one and that token is known without the table of macros.
 pub fn held(form: Form) -> Option<Shape>
     ensures { result ≡ tokens.held form }
 {
