@@ -9,7 +9,7 @@ ghost use Rattle.scopes.specs.Steps.{IsLater};
 use crate::event::WalkStop;
 use crate::walk::walk;
 use c_tokens::{Memory, Word};
-use c_trees::Item;
+use checked_trees::Item;
 use scope_meanings::NameUse;
 use scope_tables::{ScopeTable, WordClass};
 use std::alloc::Global;
