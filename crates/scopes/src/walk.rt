@@ -16,7 +16,8 @@ use crate::meaning::{declares, inside, is_name, is_typed, meaning, name_in};
 use crate::table::{Scopes, WordClass};
 use c_forms::{DeclaratorForm, Form, ParamsForm};
 use c_tokens::{Span, Word};
-use c_trees::{Item, Tree};
+use c_trees::Tree;
+use checked_trees::Item;
 
 /// Why a walk stopped.
 #[derive(Clone, Copy, Debug, PartialEq, Eq)]
