@@ -2,7 +2,8 @@
 
 use crate::step::Step;
 use c_tokens::{Memory, Span};
-use c_trees::{Parts, Tree, TreeStop};
+use c_trees::{Parts, Tree};
+use checked_trees::{TreeStop, checked};
 use sqlite_items::Items;
 use std::alloc::{AllocError, Global};
 
@@ -44,7 +45,7 @@ pub fn build(alloc: Global, steps: &[Step], shift: u32) -> Result<Tree, BuildSto
             start,
             end: start.saturating_add(1),
         };
-        stack.push(Tree::checked(alloc, order.form, span, parts)?)?;
+        stack.push(checked(alloc, order.form, span, parts)?)?;
     }
     match stack.pop() {
         Some(tree) if stack.is_empty() => Ok(tree),

@@ -3,7 +3,8 @@
 use crate::build::{BuildStop, build};
 use crate::step::Step;
 use c_forms::Rule;
-use c_trees::{Tree, TreeStop, ends_open, is_same};
+use c_trees::{Tree, ends_open, is_same};
+use checked_trees::TreeStop;
 use sqlite_items::Items;
 use std::alloc::Global;
 

@@ -2,7 +2,8 @@
 
 use c_forms::{ExpForm, Form, GroupForm};
 use c_tokens::{Element, Kind, Span, Word};
-use c_trees::{Parts, Tree, TreeStop, bindings, is_same};
+use c_trees::{Parts, Tree, is_same};
+use checked_trees::{TreeStop, bindings, checked};
 use sqlite_items::Items;
 use std::alloc::Global;
 use std::slice;
@@ -11,7 +12,7 @@ use std::test::Fail;
 const HERE: Span = Span { start: 0, end: 1 };
 
 fn leaf(alloc: Global, form: ExpForm) -> Result<Tree, TreeStop> {
-    Tree::checked(alloc, Form::Exp(form), HERE, Parts::new())
+    checked(alloc, Form::Exp(form), HERE, Parts::new())
 }
 
 /// `name[0][1][2]..`, as high as it is asked to be.
@@ -19,7 +20,7 @@ fn chain(alloc: Global, height: u32) -> Result<Tree, TreeStop> {
     let mut tree = leaf(alloc, ExpForm::Name(Word(0)))?;
     for number in 0..height {
         let at = leaf(alloc, ExpForm::Int(Word(number)))?;
-        tree = Tree::checked(alloc, Form::Exp(ExpForm::Index), HERE, Parts::two(tree, at))?;
+        tree = checked(alloc, Form::Exp(ExpForm::Index), HERE, Parts::two(tree, at))?;
     }
     Ok(tree)
 }
@@ -71,10 +72,10 @@ fn two_binders_in_three_rounds(rt: HostRuntime) -> Result<(), Fail> {
     let mut rounds = Parts::new();
     for _ in 0..3 {
         let parts = Parts::two(chain(alloc, 0)?, chain(alloc, 1)?);
-        let round = Tree::checked(alloc, Form::Group(GroupForm::Row), HERE, parts)?;
+        let round = checked(alloc, Form::Group(GroupForm::Row), HERE, parts)?;
         rounds.push(alloc, round)?;
     }
-    let part = Tree::checked(alloc, Form::Group(GroupForm::Rounds), HERE, rounds)?;
+    let part = checked(alloc, Form::Group(GroupForm::Rounds), HERE, rounds)?;
     let all = bindings(alloc, slice::from_ref(&pattern), slice::from_ref(&part))?;
     assert_eq!(rt; all.len(), 2);
     for (height, list) in all.as_slice().iter().enumerate() {

@@ -8,7 +8,8 @@ use crate::{
 };
 use c_forms::{ExpForm, Form};
 use c_tokens::{Span, Word};
-use c_trees::{Parts, Tree, TreeStop};
+use c_trees::{Parts, Tree};
+use checked_trees::{TreeStop, checked};
 use std::alloc::Global;
 use std::test::Fail;
 
@@ -66,9 +67,9 @@ fn broken_rules(rt: HostRuntime) -> Result<(), Fail> {
 fn tower(alloc: Global, floors: u32) -> Result<Tree, TreeStop> {
     let span = Span { start: 0, end: 1 };
     let word = Form::Exp(ExpForm::Name(Word(1)));
-    let mut tree = Tree::checked(alloc, word, span, Parts::new())?;
+    let mut tree = checked(alloc, word, span, Parts::new())?;
     for _ in 0..floors {
-        tree = Tree::checked(alloc, PRE_INC.order().form, span, Parts::one(tree))?;
+        tree = checked(alloc, PRE_INC.order().form, span, Parts::one(tree))?;
     }
     Ok(tree)
 }

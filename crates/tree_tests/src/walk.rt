@@ -4,7 +4,7 @@
 use crate::build::build;
 use crate::step::Step;
 use c_tokens::{Memory, Span, Word};
-use c_trees::Item;
+use checked_trees::Item;
 use scopes::{Scopes, WalkStop, WordClass};
 use std::alloc::Global;
 
