@@ -4,3 +4,6 @@ pub mod Repeats
 pub mod Local
 pub mod Deeper
 pub mod Advance
+pub mod Sets
+pub mod Seen
+pub mod Fresh
