@@ -7,3 +7,5 @@ pub mod Advance
 pub mod Sets
 pub mod Seen
 pub mod Fresh
+pub mod Phrases
+pub mod Live

@@ -6,11 +6,9 @@ use Rattle.c_reader.specs.declared.refusal.Refusal.TheVariants.{Memory, Syntax, 
 use Rattle.c_reader.specs.States.{seen, happens, noted}
 use Rattle.c_reader.specs.Tokens.{Spot, step, turned, seen_at, Agree}
 use Rattle.c_reader.specs.Readers.{Input, Reader, Outcome, Turn, More, Last, Rule, Body, Found, Give, Refuse, Look, Next, Pick, Note, Bind, Fits, Call, Loop, Ask, Change, run, read, below, pick, when, and_then, after, loop}
+pub use Rattle.c_reader.specs.Laws.{from}
 use Rattle.c_reader.proofs.Loops.{Shrinks}
 use Rattle.c_reader.proofs.Bounds.{Tame}
-
-abbrev pub from : List Shape → Spot → Input
-from w i = record { tokens = w; at = i }
 
 -- where an outcome was reached
 abbrev pub reached : {A : Type 0} → Outcome A → ℕ
