@@ -9,3 +9,4 @@ pub mod Seen
 pub mod Fresh
 pub mod Phrases
 pub mod Live
+pub mod LiveFrom
