@@ -10,3 +10,5 @@ pub mod Fresh
 pub mod Phrases
 pub mod Live
 pub mod LiveFrom
+pub mod Completed
+pub mod Finished
