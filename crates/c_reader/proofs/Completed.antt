@@ -10,7 +10,7 @@ use Rattle.c_reader.specs.Laws.{from}
 use Rattle.c_reader.proofs.Bounds.{Tame}
 use Rattle.c_reader.proofs.Fresh.{Fresh, Lows, LowNear, LowName, Low, AllLow, Under, up_lows, up_name, up_near, up_low, up_all, up_under}
 use Rattle.c_reader.proofs.Phrases.{Tokens, renewed, Here, Ends}
-use Rattle.c_reader.proofs.Live.{Calls, any_token, Live, Before, Continues}
+use Rattle.c_reader.proofs.Live.{Calls, Live, Before, Continues}
 use Rattle.c_reader.proofs.LiveFrom.{live}
 
 -- ---- the tokens through a place, and what follows them
@@ -130,7 +130,8 @@ whole body Q r w i p quiet C =
     record { source = v; agrees = agree; place = h.0; ends = C.finishes N v h.0 new agree h.1.0 (ap Q h.1.1 ∙ quiet); at_end = h.1.1 }
 
 -- a prefix that a live reader took, or lacks levels alone for, can be completed
-pub completed : {A : Type 0} (body : Body) (bodies : (n : Rule) → Tame body (body n)) (calls : Calls) (lives : (n : Rule) → calls.Good n → Live body calls (calls.needs n) any_token (calls.following n) (body n))
-    (deep d : ℕ) → deep ≤ d → (Q : Tokens) → Q shape.End ≡ true → (r : Reader A) → Tame body r → Live body calls deep any_token Q r
-    → (w : List Shape) (i : Spot) (p : ℕ) → i.place ≤ p → Before p (read body d r (from w i)) → Whole body r i w p
-completed body bodies calls lives deep d D Q quiet r T L w i p le b = whole body Q r w i p quiet (live body bodies calls lives deep d D w p Q r T L i le b)
+pub completed : {A : Type 0} (body : Body) (bodies : (n : Rule) → Tame body (body n)) (calls : Calls)
+    (lives : (n : Rule) (s : State) (y : Shape) → calls.Good n s y → Live body calls (calls.needs n) s y (calls.following n) (body n))
+    (deep d : ℕ) → deep ≤ d → (Q : Tokens) → Q shape.End ≡ true → (r : Reader A) (w : List Shape) (i : Spot) → Tame body r → Live body calls deep i.state (raw_at w i.place) Q r
+    → (p : ℕ) → i.place ≤ p → Before p (read body d r (from w i)) → Whole body r i w p
+completed body bodies calls lives deep d D Q quiet r w i T L p le b = whole body Q r w i p quiet (live body bodies calls lives deep d D w p Q r i T L le b)

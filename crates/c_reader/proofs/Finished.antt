@@ -4,14 +4,15 @@ use Rattle.std.proofs.Common.{◌≡◌, refl, ℕ, ◌<◌, ◌≤◌, max, tru
 use Rattle.c_tokens.specs.declared.token.Shape.{Shape}
 use Rattle.c_tokens.specs.declared.token.Shape.TheVariants as shape
 use Rattle.c_reader.specs.declared.refusal.Refusal.TheVariants.{Syntax, TooDeep}
-use Rattle.c_reader.specs.Tokens.{Spot, spot, Agree}
+use Rattle.c_reader.specs.States.{State}
+use Rattle.c_reader.specs.Tokens.{Spot, spot, raw_at, Agree}
 use Rattle.c_reader.specs.Readers.{Input, Reader, Outcome, Rule, Body, read}
 use Rattle.c_reader.specs.Laws.{from, any_levels, IsRead, Dead, Completion, IsFirstDead, IsTooDeep}
 use Rattle.c_reader.proofs.Bounds.{Tame}
 use Rattle.c_reader.proofs.Local.{Same, local, Onward, onward}
 use Rattle.c_reader.proofs.Deeper.{Deeper, deeper}
 use Rattle.c_reader.proofs.Phrases.{Tokens, risen}
-use Rattle.c_reader.proofs.Live.{Calls, any_token, Live, Before}
+use Rattle.c_reader.proofs.Live.{Calls, Live, Before}
 use Rattle.c_reader.proofs.Completed.{Whole, completed}
 
 still_refused : {A : Type 0} (v : List Shape) (k : ℕ) (o q x : Outcome A) → o ≡ Err (Syntax k) → Same k v o q → Deeper q x → x ≡ Err (Syntax k)
@@ -52,15 +53,15 @@ module _ {A : Type 0} (body : Body) (bodies : (n : Rule) → Tame body (body n))
     is_read = record { levels = W.ends.levels; allowed = tt; answer = W.ends.value; after = spot W.place W.ends.state; reads = W.ends.reads };
   }
 
-  module _ (calls : Calls) (lives : (n : Rule) → calls.Good n → Live body calls (calls.needs n) any_token (calls.following n) (body n))
-      (deep d : ℕ) (enough : deep ≤ d) (Q : Tokens) (quiet : Q shape.End ≡ true) (L : Live body calls deep any_token Q r) where
-    completion : (w : List Shape) (p : ℕ) → i.place ≤ p → Before p (read body d r (from w i)) → Completion body r i w p
-    completion w p le b = whole_read w p (completed body bodies calls lives deep d enough Q quiet r T L w i p le b)
+  module _ (calls : Calls) (lives : (n : Rule) (s : State) (y : Shape) → calls.Good n s y → Live body calls (calls.needs n) s y (calls.following n) (body n))
+      (deep d : ℕ) (enough : deep ≤ d) (Q : Tokens) (quiet : Q shape.End ≡ true) (w : List Shape) (L : Live body calls deep i.state (raw_at w i.place) Q r) where
+    completion : (p : ℕ) → i.place ≤ p → Before p (read body d r (from w i)) → Completion body r i w p
+    completion p le b = whole_read w p (completed body bodies calls lives deep d enough Q quiet r w i T L p le b)
 
     -- a refused token is the first that no tokens have that are read
-    pub first_dead : (w : List Shape) (k : ℕ) → read body d r (from w i) ≡ Err (Syntax k) → IsFirstDead body r i w k
-    first_dead w k e = (dead d w k e, λ p le less. completion w p le (refuses _ k p e less))
+    pub first_dead : (k : ℕ) → read body d r (from w i) ≡ Err (Syntax k) → IsFirstDead body r i w k
+    first_dead k e = (dead d w k e, λ p le less. completion p le (refuses _ k p e less))
 
     -- one for which levels are missing stands in tokens that are read, and is too deep in all those
-    pub only_deep : (w : List Shape) (k : ℕ) → read body d r (from w i) ≡ Err (TooDeep k) → IsTooDeep d body r i w k
-    only_deep w k e = (too_deep d w k e, completion w k (lacks_at i.place w k _ e (onward body d w r i)) (lacks _ k e))
+    pub only_deep : (k : ℕ) → read body d r (from w i) ≡ Err (TooDeep k) → IsTooDeep d body r i w k
+    only_deep k e = (too_deep d w k e, completion k (lacks_at i.place w k _ e (onward body d w r i)) (lacks _ k e))

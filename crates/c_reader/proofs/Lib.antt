@@ -7,6 +7,7 @@ pub mod Advance
 pub mod Sets
 pub mod Seen
 pub mod Fresh
+pub mod Leaves
 pub mod Phrases
 pub mod Live
 pub mod LiveFrom

@@ -4,40 +4,37 @@ use Rattle.std.proofs.Common.{◌≡◌, refl, ℕ, suc, ◌+◌, ◌<◌, ◌�
 use Rattle.c_tokens.specs.declared.token.Shape.{Shape}
 use Rattle.c_forms.specs.declared.pieces.Event.{Event}
 use Rattle.c_reader.specs.declared.refusal.Refusal.TheVariants.{Memory, Syntax, TooDeep}
-use Rattle.c_reader.specs.States.{State, Seen, seen}
-use Rattle.c_reader.specs.Tokens.{Spot, raw_at, Agree}
+use Rattle.c_reader.specs.States.{State, Seen, seen, happens}
+use Rattle.c_reader.specs.Tokens.{Spot, spot, raw_at, Agree}
 use Rattle.c_reader.specs.Readers.{Reader, Outcome, Turn, More, Last, Rule, Body, Found, Give, Refuse, Look, Next, Pick, Note, Bind, Fits, Call, Loop, Ask, Change, choose, turn_while, repeat}
 use Rattle.c_reader.proofs.Bounds.{Bounded}
 use Rattle.c_reader.proofs.Fresh.{Fresh}
-use Rattle.c_reader.proofs.Phrases.{Tokens, Opens, Here, Ends, Finishes, Phrase, Way, Begun, fin_give, fin_over, begun_fewer}
+use Rattle.c_reader.proofs.Leaves.{Leaves, Turned, anyhow, leaves_anyhow, leaves_turn}
+use Rattle.c_reader.proofs.Phrases.{Tokens, Opens, Here, Ends, Finishes, Phrase, Way, Begun, fin_give, fin_over}
 
--- What is promised of the rules that calls are made of: how many levels each needs below it, and what may follow what it
--- reads.
+-- What is promised of the rules that calls are made of: in which states and at which tokens they are called, how many
+-- levels each needs below it, and what may follow what it reads.
 pub record Calls : Type 1 where
-  pub Good : Rule → Type 0
+  pub Good : Rule → State → Shape → Type 0
   pub needs : Rule → ℕ
   pub following : Rule → Tokens
 
--- nothing is known of the token that stands there
-abbrev pub any_token : Seen → Type 0
-any_token x = Unit {0}
-
--- After each token that it takes, the reader can be finished, where a token of Q follows. The token that stands there
--- meets C, and this many levels are left.
+-- In state s at the token y: after each token that it takes, the reader can be finished, where a token of Q follows. So
+-- many levels are left.
 module _ (body : Body) (calls : Calls) where
-  abbrev pub Live : {A : Type 0} → ℕ → (Seen → Type 0) → Tokens → Reader A → Type 0
-  Live deep C Q (Give a) = Unit {0}
-  Live deep C Q Refuse = Unit {0}
-  Live deep C Q (Look f) = (x : Seen) → C x → Live deep (λ y. y ≡ x) Q (f x)
-  Live deep C Q (Next r) = Phrase body Q r × Live deep any_token Q r
-  Live deep C Q (Pick f) = Unit {0}
-  Live deep C Q (Note f) = Unit {0}
-  Live deep C Q (Bind {B = B} r f) = (P : Tokens) × (Live deep C P r × (Way body P Q f × ((b : B) → Live deep any_token Q (f b))))
-  Live deep C Q (Fits h r) = Begun body C Q r × Live (suc h) C Q r
-  Live deep C Q (Call n) = calls.Good n × ((calls.needs n < deep) × ((x : Shape) → Q x ≡ true → calls.following n x ≡ true))
-  Live deep C Q (Loop {S = S} f s) = ((s : S) → Live deep any_token Q (f s)) × ((s : S) → Finishes body Q (Loop f s) [])
-  Live deep C Q (Ask f) = (i : Spot) → Live deep C Q (f i)
-  Live deep C Q (Change e r) = Live deep any_token Q r
+  abbrev pub Live : {A : Type 0} → ℕ → State → Shape → Tokens → Reader A → Type 1
+  Live deep s y Q (Give a) = Unit {1}
+  Live deep s y Q Refuse = Unit {1}
+  Live deep s y Q (Look f) = Live deep s y Q (f (seen s y))
+  Live deep s y Q (Next r) = Phrase body s Q r × ((x : Shape) → Live deep s x Q r)
+  Live deep s y Q (Pick f) = Unit {1}
+  Live deep s y Q (Note f) = Unit {1}
+  Live deep s y Q (Bind {B = B} r f) = (P : Tokens) × ((J : B → State → Type 0) × (Live deep s y P r × (Leaves body s y r J × (Way body J P Q f × ((b : B) (t : State) (x : Shape) → J b t → Live deep t x Q (f b))))))
+  Live deep s y Q (Fits h r) = Begun body s y Q r × Live (suc h) s y Q r
+  Live deep s y Q (Call n) = calls.Good n s y × ((calls.needs n < deep) × (((x : Shape) → Q x ≡ true → calls.following n x ≡ true) × Unit {1}))
+  Live deep s y Q (Loop {A = A} {S = S} f t) = (K : S → State → Type 0) × (K t s × (((t : S) (z : State) (x : Shape) → K t z → Live deep z x Q (f t)) × (((t : S) (z : State) (x : Shape) → K t z → Leaves body z x (f t) (Turned K anyhow)) × ((t : S) (z : State) → K t z → Finishes body z Q (Loop f t) []))))
+  Live deep s y Q (Ask f) = (place : ℕ) → Live deep s y Q (f (spot place s))
+  Live deep s y Q (Change e r) = Live deep (happens e s) y Q r
 
 -- the place was taken, or has a token for which levels are missing
 abbrev pub Before : {A : Type 0} → ℕ → Outcome A → Type 0
@@ -51,41 +48,42 @@ pub record Continues {A : Type 0} (body : Body) (Q : Tokens) (r : Reader A) (w :
   pub tokens : List Shape
   pub finishes : (N : ℕ) (v : List Shape) (j : ℕ) → Fresh N v i → Agree p w v → Here N tokens v (p + 1) j → Q (raw_at v j) ≡ true → Ends body r v i j
 
+-- ---- what makes a reader live
+
 module _ (body : Body) (calls : Calls) where
-  pub live_choose : {A : Type 0} (deep : ℕ) (C : Seen → Type 0) (Q : Tokens) (b : Bool) (r q : Reader A) → (b ≡ true → Live body calls deep C Q r) → (b ≡ false → Live body calls deep C Q q) → Live body calls deep C Q (choose b r q)
-  live_choose deep C Q true r q R S = R refl
-  live_choose deep C Q false r q R S = S refl
+  pub live_choose : {A : Type 0} (deep : ℕ) (s : State) (y : Shape) (Q : Tokens) (b : Bool) (r q : Reader A) → (b ≡ true → Live body calls deep s y Q r) → (b ≡ false → Live body calls deep s y Q q) → Live body calls deep s y Q (choose b r q)
+  live_choose deep s y Q true r q R S = R refl
+  live_choose deep s y Q false r q R S = S refl
+
+  -- a part, and a phrase that goes on after it, where J holds of the part
+  pub live_bind : {A B : Type 0} (deep : ℕ) (s : State) (y : Shape) (J : B → State → Type 0) (P Q : Tokens) (r : Reader B) (f : B → Reader A) → Live body calls deep s y P r → Leaves body s y r J → Way body J P Q f
+      → ((b : B) (t : State) (x : Shape) → J b t → Live body calls deep t x Q (f b)) → Live body calls deep s y Q (Bind r f)
+  live_bind deep s y J P Q r f L J' W F = (P, (J, (L, (J', (W, F)))))
+
+  -- in whichever state the part ends
+  pub live_then : {A B : Type 0} (deep : ℕ) (s : State) (y : Shape) (P Q : Tokens) (r : Reader B) (f : B → Reader A) (u : List Shape) → Live body calls deep s y P r → Opens P u Q → ((b : B) (t : State) → Finishes body t Q (f b) u)
+      → ((b : B) (t : State) (x : Shape) → Live body calls deep t x Q (f b)) → Live body calls deep s y Q (Bind r f)
+  live_then deep s y P Q r f u L opens F G = (P, (anyhow, (L, (leaves_anyhow body s y r, (record { tokens = u; opens = opens; finishes = λ b t _. F b t }, λ b t x _. G b t x)))))
 
   -- where what follows ends the first part too
-  pub live_map : {A B : Type 0} (deep : ℕ) (C : Seen → Type 0) (P Q : Tokens) (r : Reader B) (f : B → A) → ((x : Shape) → Q x ≡ true → P x ≡ true) → Live body calls deep C P r → Live body calls deep C Q (Bind r (λ b. Give (f b)))
-  live_map deep C P Q r f up L = (P, (L, (record { tokens = []; opens = up; finishes = λ b. fin_give body Q (f b) }, λ b. tt)))
+  pub live_map : {A B : Type 0} (deep : ℕ) (s : State) (y : Shape) (P Q : Tokens) (r : Reader B) (f : B → A) → ((x : Shape) → Q x ≡ true → P x ≡ true) → Live body calls deep s y P r → Live body calls deep s y Q (Bind r (λ b. Give (f b)))
+  live_map deep s y P Q r f up L = live_then deep s y P Q r (λ b. Give (f b)) [] L up (λ b t. fin_give body t Q (f b)) (λ b t x. tt)
 
-  -- a part, and a phrase that goes on after it
-  pub live_then : {A B : Type 0} (deep : ℕ) (C : Seen → Type 0) (P Q : Tokens) (r : Reader B) (f : B → Reader A) (u : List Shape) → Opens P u Q → Live body calls deep C P r → ((b : B) → Finishes body Q (f b) u) → ((b : B) → Live body calls deep any_token Q (f b)) → Live body calls deep C Q (Bind r f)
-  live_then deep C P Q r f u opens L F G = (P, (L, (record { tokens = u; opens = opens; finishes = F }, G)))
+  pub live_next : {A : Type 0} (deep : ℕ) (s : State) (y : Shape) (Q : Tokens) (r : Reader A) (u : List Shape) → Finishes body s Q r u → ((x : Shape) → Live body calls deep s x Q r) → Live body calls deep s y Q (Next r)
+  live_next deep s y Q r u F L = (record { tokens = u; finishes = F }, L)
 
-  pub live_next : {A : Type 0} (deep : ℕ) (C : Seen → Type 0) (Q : Tokens) (r : Reader A) (u : List Shape) → Finishes body Q r u → Live body calls deep any_token Q r → Live body calls deep C Q (Next r)
-  live_next deep C Q r u F L = (record { tokens = u; finishes = F }, L)
-
-  pub live_repeat : {S : Type 0} (deep : ℕ) (C : Seen → Type 0) (Q : Tokens) (goes : S → Seen → Bool) (item : Seen → S → Reader S) (B : Bounded body (turn_while goes item)) (s : S)
-      → ((t : S) (z : State) (x : Shape) → Q x ≡ true → goes t (seen z x) ≡ false)
-      → ((x : Seen) (t : S) → goes t x ≡ true → Live body calls deep (λ y. y ≡ x) Q (item x t)) → Live body calls deep C Q (repeat goes item s)
-  live_repeat deep C Q goes item B s none L = (
-    λ t x c. live_choose deep (λ y. y ≡ x) Q (goes t x) (Bind (item x t) (λ u. Give (More u))) (Give (Last t)) (λ y. live_map deep (λ y. y ≡ x) Q Q (item x t) More (λ x q. q) (L x t y)) (λ _. tt),
-    λ t. fin_over body Q goes item B t (none t),
+  -- a loop that is over where a token of Q follows; K holds before each turn
+  pub live_repeat : {S : Type 0} (deep : ℕ) (s : State) (y : Shape) (Q : Tokens) (goes : S → Seen → Bool) (item : Seen → S → Reader S) (B : Bounded body (turn_while goes item)) (t : S) (K : S → State → Type 0) → K t s
+      → ((t : S) (z : State) (x : Shape) → K t z → Q x ≡ true → goes t (seen z x) ≡ false)
+      → ((t : S) (z : State) (x : Shape) → K t z → goes t (seen z x) ≡ true → Live body calls deep z x Q (item (seen z x) t))
+      → ((t : S) (z : State) (x : Shape) → K t z → goes t (seen z x) ≡ true → Leaves body z x (item (seen z x) t) K) → Live body calls deep s y Q (repeat goes item t)
+  live_repeat deep s y Q goes item B t K k none L J = (
+    K,
+    (
+      k,
+      (
+        λ t z x k. live_choose deep z x Q (goes t (seen z x)) (Bind (item (seen z x) t) (λ u. Give (More u))) (Give (Last t)) (λ e. live_map deep z x Q Q (item (seen z x) t) More (λ x q. q) (L t z x k e)) (λ _. tt),
+        (λ t z x k. leaves_turn body K goes item t z x (J t z x k), λ t z k. fin_over body z Q goes item B t (λ x q. none t z x k q)),
+      ),
+    ),
   )
-
-  -- more levels may be left, and more may be known of the token
-  pub live_more : {A : Type 0} (deep more : ℕ) → deep ≤ more → (C D : Seen → Type 0) → ((x : Seen) → D x → C x) → (Q : Tokens) (r : Reader A) → Live body calls deep C Q r → Live body calls more D Q r
-  live_more deep more le C D sub Q (Give a) L = tt
-  live_more deep more le C D sub Q Refuse L = tt
-  live_more deep more le C D sub Q (Look f) L = λ x d. live_more deep more le (λ y. y ≡ x) (λ y. y ≡ x) (λ y e. e) Q (f x) (L x (sub x d))
-  live_more deep more le C D sub Q (Next r) L = (L.0, live_more deep more le any_token any_token (λ x c. c) Q r L.1)
-  live_more deep more le C D sub Q (Pick f) L = tt
-  live_more deep more le C D sub Q (Note f) L = tt
-  live_more deep more le C D sub Q (Bind r f) L = (L.0, (live_more deep more le C D sub L.0 r L.1.0, (L.1.1.0, λ b. live_more deep more le any_token any_token (λ x c. c) Q (f b) (L.1.1.1 b))))
-  live_more deep more le C D sub Q (Fits h r) L = (begun_fewer body C D Q Q r sub (λ x q. q) L.0, live_more (suc h) (suc h) (omega arith) C D sub Q r L.1)
-  live_more deep more le C D sub Q (Call n) L = (L.0, (omega (arith, L.1.0), L.1.1))
-  live_more deep more le C D sub Q (Loop f s) L = (λ s. live_more deep more le any_token any_token (λ x c. c) Q (f s) (L.0 s), L.1)
-  live_more deep more le C D sub Q (Ask f) L = λ i. live_more deep more le C D sub Q (f i) (L i)
-  live_more deep more le C D sub Q (Change e r) L = live_more deep more le any_token any_token (λ x c. c) Q r L

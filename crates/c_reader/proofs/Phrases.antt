@@ -13,6 +13,7 @@ use Rattle.c_reader.proofs.Seen.{written}
 use Rattle.c_reader.proofs.Bounds.{Bounded}
 use Rattle.c_reader.proofs.Repeats.{goes_on, ends_with}
 use Rattle.c_reader.proofs.Advance.{over}
+use Rattle.c_reader.proofs.Leaves.{Leaves, Turned, anyhow, leaves_anyhow}
 use Rattle.c_reader.proofs.Local.{from}
 use Rattle.c_reader.proofs.Fresh.{Fresh, freshly, fresh_step, fresh_event, new_word}
 use Rattle.c_reader.proofs.Deeper.{Deeper, deeper}
@@ -49,29 +50,24 @@ pub record Ends {A : Type 0} (body : Body) (r : Reader A) (v : List Shape) (i : 
   pub state : State
   pub reads : read body levels r (from v i) ≡ Ok (value, from v (spot j state))
 
--- the reader takes the phrase, if one of these tokens follows
-abbrev pub Finishes : {A : Type 0} → Body → Tokens → Reader A → List Shape → Type 0
-Finishes body Q r u = (N : ℕ) (v : List Shape) (i : Spot) (j : ℕ) → Fresh N v i → Here N u v i.place j → Q (raw_at v j) ≡ true → Ends body r v i j
+-- In this state the reader takes the phrase, if one of these tokens follows.
+abbrev pub Finishes : {A : Type 0} → Body → State → Tokens → Reader A → List Shape → Type 0
+Finishes body s Q r u = (N : ℕ) (v : List Shape) (place j : ℕ) → Fresh N v (spot place s) → Here N u v place j → Q (raw_at v j) ≡ true → Ends body r v (spot place s) j
 
-pub record Phrase {A : Type 0} (body : Body) (Q : Tokens) (r : Reader A) : Type 0 where
+pub record Phrase {A : Type 0} (body : Body) (s : State) (Q : Tokens) (r : Reader A) : Type 0 where
   pub tokens : List Shape
-  pub finishes : Finishes body Q r tokens
+  pub finishes : Finishes body s Q r tokens
 
--- one phrase that whatever was read, up to a token of P, can go on with
-pub record Way {A B : Type 0} (body : Body) (P Q : Tokens) (f : B → Reader A) : Type 0 where
+-- one phrase that whatever was read, up to a token of P and with what J says, can go on with
+pub record Way {A B : Type 0} (body : Body) (J : B → State → Type 0) (P Q : Tokens) (f : B → Reader A) : Type 0 where
   pub tokens : List Shape
   pub opens : Opens P tokens Q
-  pub finishes : (b : B) → Finishes body Q (f b) tokens
+  pub finishes : (b : B) (s : State) → J b s → Finishes body s Q (f b) tokens
 
--- one phrase that the reader takes after a token that stands there, whichever it is
-pub record Passing {A : Type 0} (body : Body) (Q : Tokens) (r : Reader A) : Type 0 where
+-- a phrase that the reader takes in this state after this token
+pub record Begun {A : Type 0} (body : Body) (s : State) (y : Shape) (Q : Tokens) (r : Reader A) : Type 0 where
   pub tokens : List Shape
-  pub finishes : (N : ℕ) (v : List Shape) (i : Spot) (j : ℕ) → Fresh N v i → Here N tokens v (i.place + 1) j → Q (raw_at v j) ≡ true → Ends body r v i j
-
--- a phrase for each token that may stand there, which the reader takes after it
-pub record Begun {A : Type 0} (body : Body) (C : Seen → Type 0) (Q : Tokens) (r : Reader A) : Type 0 where
-  pub tokens : (x : Seen) → C x → List Shape
-  pub finishes : (x : Seen) (c : C x) (N : ℕ) (v : List Shape) (i : Spot) (j : ℕ) → Fresh N v i → seen_at v i ≡ x → Here N (tokens x c) v (i.place + 1) j → Q (raw_at v j) ≡ true → Ends body r v i j
+  pub finishes : (N : ℕ) (v : List Shape) (place j : ℕ) → Fresh N v (spot place s) → raw_at v place ≡ y → Here N tokens v (place + 1) j → Q (raw_at v j) ≡ true → Ends body r v (spot place s) j
 
 -- ---- how the tokens of a phrase are seen
 
@@ -150,180 +146,182 @@ module _ (body : Body) where
         record { levels = D; value = E.value; state = E.state; reads = goes_on body f B D s (from v i) t (from v m) turn ∙ at_levels (Loop f t) v m j E D (omega arith) }
 
     -- after a turn the loop ends where what may follow it follows
-    pub ends_turn : (Q : Tokens) (quiet : (s : S) → Finishes body Q (Loop f s) []) (N : ℕ) (s : S) (v : List Shape) (i : Spot) (j : ℕ) (z : State) (d : ℕ) (r : Turn S A)
-        → Fresh N v i → read body d (f s) (from v i) ≡ Ok (r, from v (spot j z)) → Q (raw_at v j) ≡ true → Ends body (Loop f s) v i j
-    ends_turn Q quiet N s v i j z d (More t) new e q = ends_more s t v i (spot j z) j d e (quiet t N v (spot j z) j (freshly body N v i new d (f s) (More t) (spot j z) e) refl q)
-    ends_turn Q quiet N s v i j z d (Last a) new e q = ends_last s v i j z d a e
+    pub ends_turn : (K : S → State → Type 0) (Q : Tokens) (quiet : (t : S) (z : State) → K t z → Finishes body z Q (Loop f t) []) (N : ℕ) (s : S) (v : List Shape) (i : Spot) (j : ℕ) (z : State) (d : ℕ) (r : Turn S A)
+        → Fresh N v i → Turned K anyhow r z → read body d (f s) (from v i) ≡ Ok (r, from v (spot j z)) → Q (raw_at v j) ≡ true → Ends body (Loop f s) v i j
+    ends_turn K Q quiet N s v i j z d (More t) new k e q = ends_more s t v i (spot j z) j d e (quiet t z k N v j j (freshly body N v i new d (f s) (More t) (spot j z) e) refl q)
+    ends_turn K Q quiet N s v i j z d (Last a) new k e q = ends_last s v i j z d a e
+
+  -- what is known of an answer is known of this one
+  pub left_so : {A : Type 0} (J : A → State → Type 0) (r : Reader A) (v : List Shape) (i : Spot) (j : ℕ) → Leaves body i.state (raw_at v i.place) r J → (E : Ends body r v i j) → J E.value E.state
+  left_so J r v i j L E = L E.levels (from v i) refl refl E.value (from v (spot j E.state)) E.reads
 
   -- ---- what finishes a reader
 
-  pub fin_give : {A : Type 0} (Q : Tokens) (a : A) → Finishes body Q (Give a) []
-  fin_give Q a N v i j new h q = record { levels = 0; value = a; state = i.state; reads = ap (λ k. Ok (a, from v (spot k i.state))) h }
+  pub fin_give : {A : Type 0} (s : State) (Q : Tokens) (a : A) → Finishes body s Q (Give a) []
+  fin_give s Q a N v i j new h q = record { levels = 0; value = a; state = s; reads = ap (λ k. Ok (a, from v (spot k s))) h }
 
-  pub fin_bind : {A B : Type 0} (P Q : Tokens) (r : Reader B) (f : B → Reader A) (u x : List Shape) → Finishes body P r u → Opens P x Q → ((b : B) → Finishes body Q (f b) x) → Finishes body Q (Bind r f) (u ++ x)
-  fin_bind P Q r f u x R q F N v i j z h e =
-      let s = here_split N u x v i.place j h in
-      let E : Ends body r v i s.0 = R N v i s.0 z s.1.0 (opens_first N P Q x v s.0 j q s.1.1 e) in
-      ends_bind r f v i s.0 j E (F E.value N v (spot s.0 E.state) j (still N v i s.0 r z E) s.1.1 e)
+  pub fin_bind : {A B : Type 0} (s : State) (J : B → State → Type 0) (P Q : Tokens) (r : Reader B) (f : B → Reader A) (u x : List Shape) → ((y : Shape) → Leaves body s y r J) → Finishes body s P r u → Opens P x Q
+      → ((b : B) (t : State) → J b t → Finishes body t Q (f b) x) → Finishes body s Q (Bind r f) (u ++ x)
+  fin_bind s J P Q r f u x L R q F N v i j z h e =
+      let m = here_split N u x v i j h in
+      let E : Ends body r v (spot i s) m.0 = R N v i m.0 z m.1.0 (opens_first N P Q x v m.0 j q m.1.1 e) in
+      ends_bind r f v (spot i s) m.0 j E (F E.value E.state (left_so J r v (spot i s) m.0 (L (raw_at v i)) E) N v m.0 j (still N v (spot i s) m.0 r z E) m.1.1 e)
+
+  -- in whichever state the first part ends
+  pub fin_then : {A B : Type 0} (s : State) (P Q : Tokens) (r : Reader B) (f : B → Reader A) (u x : List Shape) → Finishes body s P r u → Opens P x Q → ((b : B) (t : State) → Finishes body t Q (f b) x) → Finishes body s Q (Bind r f) (u ++ x)
+  fin_then s P Q r f u x R q F = fin_bind s anyhow P Q r f u x (λ y. leaves_anyhow body s y r) R q (λ b t _. F b t)
 
   -- the last part takes nothing
-  pub fin_last : {A B : Type 0} (P Q : Tokens) (r : Reader B) (f : B → Reader A) (u : List Shape) → Finishes body P r u → ((x : Shape) → Q x ≡ true → P x ≡ true) → ((b : B) → Finishes body Q (f b) []) → Finishes body Q (Bind r f) u
-  fin_last P Q r f u R up F = subst (λ u. Finishes body Q (Bind r f) u) (append-nil u) (fin_bind P Q r f u [] R up F)
+  pub fin_last : {A B : Type 0} (s : State) (P Q : Tokens) (r : Reader B) (f : B → Reader A) (u : List Shape) → Finishes body s P r u → ((x : Shape) → Q x ≡ true → P x ≡ true) → ((b : B) (t : State) → Finishes body t Q (f b) []) → Finishes body s Q (Bind r f) u
+  fin_last s P Q r f u R up F = subst (λ u. Finishes body s Q (Bind r f) u) (append-nil u) (fin_then s P Q r f u [] R up F)
 
-  pub fin_map : {A B : Type 0} (Q : Tokens) (r : Reader B) (f : B → A) (u : List Shape) → Finishes body Q r u → Finishes body Q (Bind r (λ b. Give (f b))) u
-  fin_map Q r f u R = fin_last Q Q r (λ b. Give (f b)) u R (λ x q. q) (λ b. fin_give Q (f b))
+  pub fin_map : {A B : Type 0} (s : State) (Q : Tokens) (r : Reader B) (f : B → A) (u : List Shape) → Finishes body s Q r u → Finishes body s Q (Bind r (λ b. Give (f b))) u
+  fin_map s Q r f u R = fin_last s Q Q r (λ b. Give (f b)) u R (λ x q. q) (λ b t. fin_give t Q (f b))
 
   -- fewer tokens may follow
-  pub fin_fewer : {A : Type 0} (P Q : Tokens) (r : Reader A) (u : List Shape) → ((x : Shape) → Q x ≡ true → P x ≡ true) → Finishes body P r u → Finishes body Q r u
-  fin_fewer P Q r u up F N v i j new h q = F N v i j new h (up (raw_at v j) q)
+  pub fin_fewer : {A : Type 0} (s : State) (P Q : Tokens) (r : Reader A) (u : List Shape) → ((x : Shape) → Q x ≡ true → P x ≡ true) → Finishes body s P r u → Finishes body s Q r u
+  fin_fewer s P Q r u up F N v i j new h q = F N v i j new h (up (raw_at v j) q)
 
-  pub fin_next : {A : Type 0} (Q : Tokens) (r : Reader A) (x : Shape) (u : List Shape) → Finishes body Q r u → Finishes body Q (Next r) (x ∷ u)
-  fin_next Q r x u F N v i j new h q = let E : Ends body r v (step i) j = F N v (step i) j (fresh_step N v i new) h.1 q in record { levels = E.levels; value = E.value; state = E.state; reads = E.reads }
+  pub fin_next : {A : Type 0} (s : State) (Q : Tokens) (r : Reader A) (x : Shape) (u : List Shape) → Finishes body s Q r u → Finishes body s Q (Next r) (x ∷ u)
+  fin_next s Q r x u F N v i j new h q = let E : Ends body r v (spot (i + 1) s) j = F N v (i + 1) j (fresh_step N v (spot i s) new) h.1 q in record { levels = E.levels; value = E.value; state = E.state; reads = E.reads }
 
   -- the first token is looked at
-  pub fin_look : {A : Type 0} (Q : Tokens) (f : Seen → Reader A) (x : Shape) (u : List Shape) → ((n : ℕ) → Finishes body Q (f (renewed_seen n x)) (x ∷ u)) → Finishes body Q (Look f) (x ∷ u)
-  fin_look Q f x u F N v i j new h q =
-      let E : Ends body (f (renewed_seen (N + i.place) x)) v i j = F (N + i.place) N v i j new h q in record {
+  pub fin_look : {A : Type 0} (s : State) (Q : Tokens) (f : Seen → Reader A) (x : Shape) (u : List Shape) → ((n : ℕ) → Finishes body s Q (f (renewed_seen n x)) (x ∷ u)) → Finishes body s Q (Look f) (x ∷ u)
+  fin_look s Q f x u F N v i j new h q =
+      let E : Ends body (f (renewed_seen (N + i) x)) v (spot i s) j = F (N + i) N v i j new h q in record {
         levels = E.levels;
         value = E.value;
         state = E.state;
-        reads = subst (λ y. read body E.levels (f y) (from v i) ≡ Ok (E.value, from v (spot j E.state))) (sym (renewed_at N v i x new h.0)) E.reads;
+        reads = subst (λ y. read body E.levels (f y) (from v (spot i s)) ≡ Ok (E.value, from v (spot j E.state))) (sym (renewed_at N v (spot i s) x new h.0)) E.reads;
       }
 
   -- what follows is looked at, and nothing is taken
-  pub fin_look_past : {A : Type 0} (Q : Tokens) (f : Seen → Reader A) → ((z : State) (x : Shape) → Q x ≡ true → Finishes body Q (f (seen z x)) []) → Finishes body Q (Look f) []
-  fin_look_past Q f F N v i j new h q =
-      let E : Ends body (f (seen_at v i)) v i j = F i.state (raw_at v i.place) (ap (λ k. Q (raw_at v k)) h ∙ q) N v i j new h q in record { levels = E.levels; value = E.value; state = E.state; reads = E.reads }
+  pub fin_look_past : {A : Type 0} (s : State) (Q : Tokens) (f : Seen → Reader A) → ((x : Shape) → Q x ≡ true → Finishes body s Q (f (seen s x)) []) → Finishes body s Q (Look f) []
+  fin_look_past s Q f F N v i j new h q =
+      let E : Ends body (f (seen s (raw_at v i))) v (spot i s) j = F (raw_at v i) (ap (λ k. Q (raw_at v k)) h ∙ q) N v i j new h q in record { levels = E.levels; value = E.value; state = E.state; reads = E.reads }
 
-  pub fin_pick : {A : Type 0} (Q : Tokens) (f : Seen → Option A) (x : Shape) (a : ℕ → A) → ((n : ℕ) → f (renewed_seen n x) ≡ Some (a n)) → Finishes body Q (Pick f) (x ∷ [])
-  fin_pick Q f x a F N v i j new h q = record {
+  pub fin_pick : {A : Type 0} (s : State) (Q : Tokens) (f : Seen → Option A) (x : Shape) (a : ℕ → A) → ((n : ℕ) → f (renewed_seen n x) ≡ Some (a n)) → Finishes body s Q (Pick f) (x ∷ [])
+  fin_pick s Q f x a F N v i j new h q = record {
     levels = 0;
-    value = a (N + i.place);
-    state = i.state;
-    reads = ap (λ o. pick o (from v i)) (ap f (renewed_at N v i x new h.0) ∙ F (N + i.place)) ∙ ap (λ k. Ok (a (N + i.place), from v (spot k i.state))) h.1;
+    value = a (N + i);
+    state = s;
+    reads = ap (λ o. pick o (from v (spot i s))) (ap f (renewed_at N v (spot i s) x new h.0) ∙ F (N + i)) ∙ ap (λ k. Ok (a (N + i), from v (spot k s))) h.1;
   }
 
-  pub fin_note : {A : Type 0} (Q : Tokens) (f : Seen → Option A) (x : Shape) (a : ℕ → A) → ((n : ℕ) → f (renewed_seen n x) ≡ Some (a n)) → Finishes body Q (Note f) (x ∷ [])
-  fin_note Q f x a F N v i j new h q = record {
+  pub fin_note : {A : Type 0} (s : State) (Q : Tokens) (f : Seen → Option A) (x : Shape) (a : ℕ → A) → ((n : ℕ) → f (renewed_seen n x) ≡ Some (a n)) → Finishes body s Q (Note f) (x ∷ [])
+  fin_note s Q f x a F N v i j new h q = record {
     levels = 0;
-    value = a (N + i.place);
-    state = noted (raw_at v i.place) i.state;
-    reads = ap (λ o. pick o (from v (turned (noted (raw_at v i.place)) i))) (ap f (renewed_at N v i x new h.0) ∙ F (N + i.place)) ∙ ap (λ k. Ok (a (N + i.place), from v (spot k (noted (raw_at v i.place) i.state)))) h.1;
+    value = a (N + i);
+    state = noted (raw_at v i) s;
+    reads = ap (λ o. pick o (from v (spot i (noted (raw_at v i) s)))) (ap f (renewed_at N v (spot i s) x new h.0) ∙ F (N + i)) ∙ ap (λ k. Ok (a (N + i), from v (spot k (noted (raw_at v i) s)))) h.1;
   }
 
-  pub fin_token : (Q : Tokens) (x : Shape) (c : ℕ) → written x ≡ c → Finishes body Q (token c) (x ∷ [])
-  fin_token Q x c e = fin_pick Q (λ y. only (nat_eq y.class c)) x (λ n. tt) (λ n. ap only (ap (λ k. nat_eq k c) e ∙ itself c))
+  pub fin_token : (s : State) (Q : Tokens) (x : Shape) (c : ℕ) → written x ≡ c → Finishes body s Q (token c) (x ∷ [])
+  fin_token s Q x c e = fin_pick s Q (λ y. only (nat_eq y.class c)) x (λ n. tt) (λ n. ap only (ap (λ k. nat_eq k c) e ∙ itself c))
 
-  pub fin_fits : {A : Type 0} (Q : Tokens) (h : ℕ) (r : Reader A) (u : List Shape) → Finishes body Q r u → Finishes body Q (Fits h r) u
-  fin_fits Q h r u F N v i j new H q = raised h r v i j (F N v i j new H q)
+  pub fin_fits : {A : Type 0} (s : State) (Q : Tokens) (h : ℕ) (r : Reader A) (u : List Shape) → Finishes body s Q r u → Finishes body s Q (Fits h r) u
+  fin_fits s Q h r u F N v i j new H q = raised h r v (spot i s) j (F N v i j new H q)
 
-  pub fin_call : (n : Rule) (Q : Tokens) (u : List Shape) → Finishes body Q (body n) u → Finishes body Q (Call n) u
-  fin_call n Q u F N v i j new h q = called n v i j (F N v i j new h q)
+  pub fin_call : (s : State) (Q : Tokens) (n : Rule) (u : List Shape) → Finishes body s Q (body n) u → Finishes body s Q (Call n) u
+  fin_call s Q n u F N v i j new h q = called n v (spot i s) j (F N v i j new h q)
 
-  pub fin_ask : {A : Type 0} (Q : Tokens) (f : Spot → Reader A) (u : List Shape) → ((i : Spot) → Finishes body Q (f i) u) → Finishes body Q (Ask f) u
-  fin_ask Q f u F N v i j new h q = let E : Ends body (f i) v i j = F i N v i j new h q in record { levels = E.levels; value = E.value; state = E.state; reads = E.reads }
+  pub fin_ask : {A : Type 0} (s : State) (Q : Tokens) (f : Spot → Reader A) (u : List Shape) → ((place : ℕ) → Finishes body s Q (f (spot place s)) u) → Finishes body s Q (Ask f) u
+  fin_ask s Q f u F N v i j new h q = let E : Ends body (f (spot i s)) v (spot i s) j = F i N v i j new h q in record { levels = E.levels; value = E.value; state = E.state; reads = E.reads }
 
-  pub fin_change : {A : Type 0} (Q : Tokens) (e : Event) (r : Reader A) (u : List Shape) → Finishes body Q r u → Finishes body Q (Change e r) u
-  fin_change Q e r u F N v i j new h q = let E : Ends body r v (turned (happens e) i) j = F N v (turned (happens e) i) j (fresh_event N v i e new) h q in record { levels = E.levels; value = E.value; state = E.state; reads = E.reads }
+  pub fin_change : {A : Type 0} (s : State) (Q : Tokens) (e : Event) (r : Reader A) (u : List Shape) → Finishes body (happens e s) Q r u → Finishes body s Q (Change e r) u
+  fin_change s Q e r u F N v i j new h q = let E : Ends body r v (spot i (happens e s)) j = F N v i j (fresh_event N v (spot i s) e new) h q in record { levels = E.levels; value = E.value; state = E.state; reads = E.reads }
 
-  pub fin_choose : {A : Type 0} (Q : Tokens) (b : Bool) (r q : Reader A) (u : List Shape) → (b ≡ true → Finishes body Q r u) → (b ≡ false → Finishes body Q q u) → Finishes body Q (choose b r q) u
-  fin_choose Q true r q u R S = R refl
-  fin_choose Q false r q u R S = S refl
+  pub fin_choose : {A : Type 0} (s : State) (Q : Tokens) (b : Bool) (r q : Reader A) (u : List Shape) → (b ≡ true → Finishes body s Q r u) → (b ≡ false → Finishes body s Q q u) → Finishes body s Q (choose b r q) u
+  fin_choose s Q true r q u R S = R refl
+  fin_choose s Q false r q u R S = S refl
 
   -- one turn, after which the loop ends
-  pub fin_turn : {A S : Type 0} (Q : Tokens) (f : S → Reader (Turn S A)) (B : Bounded body f) (s : S) (u : List Shape) → ((s : S) → Finishes body Q (Loop f s) []) → Finishes body Q (f s) u → Finishes body Q (Loop f s) u
-  fin_turn Q f B s u quiet F N v i j new h q = let E : Ends body (f s) v i j = F N v i j new h q in ends_turn f B Q quiet N s v i j E.state E.levels E.value new E.reads q
+  pub fin_turn : {A S : Type 0} (s : State) (K : S → State → Type 0) (Q : Tokens) (f : S → Reader (Turn S A)) (B : Bounded body f) (t : S) (u : List Shape) → ((y : Shape) → Leaves body s y (f t) (Turned K anyhow))
+      → ((t : S) (z : State) → K t z → Finishes body z Q (Loop f t) []) → Finishes body s Q (f t) u → Finishes body s Q (Loop f t) u
+  fin_turn s K Q f B t u L quiet F N v i j new h q = let E : Ends body (f t) v (spot i s) j = F N v i j new h q in
+      ends_turn f B K Q quiet N t v (spot i s) j E.state E.levels E.value new (left_so (Turned K anyhow) (f t) v (spot i s) j (L (raw_at v i)) E) E.reads q
 
   -- no turn, where what follows goes on with none
-  pub fin_over : {S : Type 0} (Q : Tokens) (goes : S → Seen → Bool) (item : Seen → S → Reader S) (B : Bounded body (turn_while goes item)) (s : S) → ((z : State) (x : Shape) → Q x ≡ true → goes s (seen z x) ≡ false) → Finishes body Q (repeat goes item s) []
-  fin_over Q goes item B s none N v i j new h q = record {
+  pub fin_over : {S : Type 0} (s : State) (Q : Tokens) (goes : S → Seen → Bool) (item : Seen → S → Reader S) (B : Bounded body (turn_while goes item)) (t : S) → ((x : Shape) → Q x ≡ true → goes t (seen s x) ≡ false) → Finishes body s Q (repeat goes item t) []
+  fin_over s Q goes item B t none N v i j new h q = record {
     levels = 0;
-    value = s;
-    state = i.state;
-    reads = over body goes item B 0 s (from v i) (none i.state (raw_at v i.place) (ap (λ k. Q (raw_at v k)) h ∙ q)) ∙ ap (λ k. Ok (s, from v (spot k i.state))) h;
+    value = t;
+    state = s;
+    reads = over body goes item B 0 t (from v (spot i s)) (none (raw_at v i) (ap (λ k. Q (raw_at v k)) h ∙ q)) ∙ ap (λ k. Ok (t, from v (spot k s))) h;
   }
 
   -- ---- what finishes a reader after the token that stands there
 
-  pub passing_next : {A : Type 0} (Q : Tokens) (r : Reader A) → Phrase body Q r → Passing body Q (Next r)
-  passing_next Q r P = record {
+  pub begun_next : {A : Type 0} (s : State) (y : Shape) (Q : Tokens) (r : Reader A) → Phrase body s Q r → Begun body s y Q (Next r)
+  begun_next s y Q r P = record {
     tokens = P.tokens;
-    finishes = λ N v i j new h q. let E : Ends body r v (step i) j = P.finishes N v (step i) j (fresh_step N v i new) h q in record { levels = E.levels; value = E.value; state = E.state; reads = E.reads };
+    finishes = λ N v i j new e h q. let E : Ends body r v (spot (i + 1) s) j = P.finishes N v (i + 1) j (fresh_step N v (spot i s) new) h q in record { levels = E.levels; value = E.value; state = E.state; reads = E.reads };
   }
 
-  pub passing_fits : {A : Type 0} (Q : Tokens) (h : ℕ) (r : Reader A) → Passing body Q r → Passing body Q (Fits h r)
-  passing_fits Q h r P = record { tokens = P.tokens; finishes = λ N v i j new H q. raised h r v i j (P.finishes N v i j new H q) }
-
-  pub passing_change : {A : Type 0} (Q : Tokens) (e : Event) (r : Reader A) → Passing body Q r → Passing body Q (Change e r)
-  passing_change Q e r P = record {
-    tokens = P.tokens;
-    finishes = λ N v i j new h q. let E : Ends body r v (turned (happens e) i) j = P.finishes N v (turned (happens e) i) j (fresh_event N v i e new) h q in record { levels = E.levels; value = E.value; state = E.state; reads = E.reads };
-  }
-
-  pub passing_bind : {A B : Type 0} (P Q : Tokens) (r : Reader B) (f : B → Reader A) → Passing body P r → Way body P Q f → Passing body Q (Bind r f)
-  passing_bind P Q r f R W = record {
-    tokens = R.tokens ++ W.tokens;
-    finishes = λ N v i j new h q.
-        let s = here_split N R.tokens W.tokens v (i.place + 1) j h in
-        let E : Ends body r v i s.0 = R.finishes N v i s.0 new s.1.0 (opens_first N P Q W.tokens v s.0 j W.opens s.1.1 q) in
-        ends_bind r f v i s.0 j E (W.finishes E.value N v (spot s.0 E.state) j (still N v i s.0 r new E) s.1.1 q);
-  }
-
-  -- whichever token it is
-  pub begun_passing : {A : Type 0} (C : Seen → Type 0) (Q : Tokens) (r : Reader A) → Passing body Q r → Begun body C Q r
-  begun_passing C Q r P = record { tokens = λ x c. P.tokens; finishes = λ x c N v i j new e h q. P.finishes N v i j new h q }
-
-  pub begun_look : {A : Type 0} (C : Seen → Type 0) (Q : Tokens) (f : Seen → Reader A) → ((x : Seen) → C x → Begun body (λ y. y ≡ x) Q (f x)) → Begun body C Q (Look f)
-  begun_look C Q f F = record {
-    tokens = λ x c. (F x c).tokens x refl;
-    finishes = λ x c N v i j new e h q. let E : Ends body (f x) v i j = (F x c).finishes x refl N v i j new e h q in record {
+  pub begun_look : {A : Type 0} (s : State) (y : Shape) (Q : Tokens) (f : Seen → Reader A) → Begun body s y Q (f (seen s y)) → Begun body s y Q (Look f)
+  begun_look s y Q f F = record {
+    tokens = F.tokens;
+    finishes = λ N v i j new e h q. let E : Ends body (f (seen s y)) v (spot i s) j = F.finishes N v i j new e h q in record {
       levels = E.levels;
       value = E.value;
       state = E.state;
-      reads = subst (λ y. read body E.levels (f y) (from v i) ≡ Ok (E.value, from v (spot j E.state))) (sym e) E.reads;
+      reads = subst (λ x. read body E.levels (f (seen s x)) (from v (spot i s)) ≡ Ok (E.value, from v (spot j E.state))) (sym e) E.reads;
     };
   }
 
-  pub begun_pick : {A : Type 0} (C : Seen → Type 0) (Q : Tokens) (f : Seen → Option A) → ((x : Seen) → C x → (a : A) × (f x ≡ Some a)) → Begun body C Q (Pick f)
-  begun_pick C Q f F = record {
-    tokens = λ x c. [];
-    finishes = λ x c N v i j new e h q. record {
+  pub begun_pick : {A : Type 0} (s : State) (y : Shape) (Q : Tokens) (f : Seen → Option A) (a : A) → f (seen s y) ≡ Some a → Begun body s y Q (Pick f)
+  begun_pick s y Q f a F = record {
+    tokens = [];
+    finishes = λ N v i j new e h q. record { levels = 0; value = a; state = s; reads = ap (λ x. pick (f (seen s x)) (from v (spot i s))) e ∙ ap (λ o. pick o (from v (spot i s))) F ∙ ap (λ k. Ok (a, from v (spot k s))) h };
+  }
+
+  pub begun_note : {A : Type 0} (s : State) (y : Shape) (Q : Tokens) (f : Seen → Option A) (a : A) → f (seen s y) ≡ Some a → Begun body s y Q (Note f)
+  begun_note s y Q f a F = record {
+    tokens = [];
+    finishes = λ N v i j new e h q. record {
       levels = 0;
-      value = (F x c).0;
-      state = i.state;
-      reads = ap (λ o. pick o (from v i)) (ap f e ∙ (F x c).1) ∙ ap (λ k. Ok ((F x c).0, from v (spot k i.state))) h;
+      value = a;
+      state = noted y s;
+      reads = ap (λ x. pick (f (seen s x)) (from v (spot i (noted x s)))) e ∙ ap (λ o. pick o (from v (spot i (noted y s)))) F ∙ ap (λ k. Ok (a, from v (spot k (noted y s)))) h;
     };
   }
 
-  pub begun_note : {A : Type 0} (C : Seen → Type 0) (Q : Tokens) (f : Seen → Option A) → ((x : Seen) → C x → (a : A) × (f x ≡ Some a)) → Begun body C Q (Note f)
-  begun_note C Q f F = record {
-    tokens = λ x c. [];
-    finishes = λ x c N v i j new e h q. record {
-      levels = 0;
-      value = (F x c).0;
-      state = noted (raw_at v i.place) i.state;
-      reads = ap (λ o. pick o (from v (turned (noted (raw_at v i.place)) i))) (ap f e ∙ (F x c).1) ∙ ap (λ k. Ok ((F x c).0, from v (spot k (noted (raw_at v i.place) i.state)))) h;
-    };
+  pub begun_bind : {A B : Type 0} (s : State) (y : Shape) (J : B → State → Type 0) (P Q : Tokens) (r : Reader B) (f : B → Reader A) → Begun body s y P r → Leaves body s y r J → Way body J P Q f → Begun body s y Q (Bind r f)
+  begun_bind s y J P Q r f R L W = record {
+    tokens = R.tokens ++ W.tokens;
+    finishes = λ N v i j new e h q.
+        let m = here_split N R.tokens W.tokens v (i + 1) j h in
+        let E : Ends body r v (spot i s) m.0 = R.finishes N v i m.0 new e m.1.0 (opens_first N P Q W.tokens v m.0 j W.opens m.1.1 q) in
+        let known : J E.value E.state = left_so J r v (spot i s) m.0 (subst (λ x. Leaves body s x r J) (sym e) L) E in
+        ends_bind r f v (spot i s) m.0 j E (W.finishes E.value E.state known N v m.0 j (still N v (spot i s) m.0 r new E) m.1.1 q);
   }
 
-  pub begun_bind : {A B : Type 0} (C : Seen → Type 0) (P Q : Tokens) (r : Reader B) (f : B → Reader A) → Begun body C P r → Way body P Q f → Begun body C Q (Bind r f)
-  begun_bind C P Q r f R W = record {
-    tokens = λ x c. R.tokens x c ++ W.tokens;
-    finishes = λ x c N v i j new e h q.
-        let s = here_split N (R.tokens x c) W.tokens v (i.place + 1) j h in
-        let E : Ends body r v i s.0 = R.finishes x c N v i s.0 new e s.1.0 (opens_first N P Q W.tokens v s.0 j W.opens s.1.1 q) in
-        ends_bind r f v i s.0 j E (W.finishes E.value N v (spot s.0 E.state) j (still N v i s.0 r new E) s.1.1 q);
+  pub begun_fits : {A : Type 0} (s : State) (y : Shape) (Q : Tokens) (h : ℕ) (r : Reader A) → Begun body s y Q r → Begun body s y Q (Fits h r)
+  begun_fits s y Q h r R = record { tokens = R.tokens; finishes = λ N v i j new e H q. raised h r v (spot i s) j (R.finishes N v i j new e H q) }
+
+  pub begun_call : (s : State) (y : Shape) (Q : Tokens) (n : Rule) → Begun body s y Q (body n) → Begun body s y Q (Call n)
+  begun_call s y Q n R = record { tokens = R.tokens; finishes = λ N v i j new e h q. called n v (spot i s) j (R.finishes N v i j new e h q) }
+
+  pub begun_ask : {A : Type 0} (s : State) (y : Shape) (Q : Tokens) (f : Spot → Reader A) (u : List Shape)
+      → ((place : ℕ) (N : ℕ) (v : List Shape) (j : ℕ) → Fresh N v (spot place s) → raw_at v place ≡ y → Here N u v (place + 1) j → Q (raw_at v j) ≡ true → Ends body (f (spot place s)) v (spot place s) j) → Begun body s y Q (Ask f)
+  begun_ask s y Q f u F = record {
+    tokens = u;
+    finishes = λ N v i j new e h q. let E : Ends body (f (spot i s)) v (spot i s) j = F i N v j new e h q in record { levels = E.levels; value = E.value; state = E.state; reads = E.reads };
   }
 
-  pub begun_fits : {A : Type 0} (C : Seen → Type 0) (Q : Tokens) (h : ℕ) (r : Reader A) → Begun body C Q r → Begun body C Q (Fits h r)
-  begun_fits C Q h r R = record { tokens = R.tokens; finishes = λ x c N v i j new e H q. raised h r v i j (R.finishes x c N v i j new e H q) }
+  pub begun_change : {A : Type 0} (s : State) (y : Shape) (Q : Tokens) (e : Event) (r : Reader A) → Begun body (happens e s) y Q r → Begun body s y Q (Change e r)
+  begun_change s y Q event r R = record {
+    tokens = R.tokens;
+    finishes = λ N v i j new e h q. let E : Ends body r v (spot i (happens event s)) j = R.finishes N v i j (fresh_event N v (spot i s) event new) e h q in record { levels = E.levels; value = E.value; state = E.state; reads = E.reads };
+  }
 
-  pub begun_call : (C : Seen → Type 0) (Q : Tokens) (n : Rule) → Begun body C Q (body n) → Begun body C Q (Call n)
-  begun_call C Q n R = record { tokens = R.tokens; finishes = λ x c N v i j new e h q. called n v i j (R.finishes x c N v i j new e h q) }
+  pub begun_choose : {A : Type 0} (s : State) (y : Shape) (Q : Tokens) (b : Bool) (r q : Reader A) → (b ≡ true → Begun body s y Q r) → (b ≡ false → Begun body s y Q q) → Begun body s y Q (choose b r q)
+  begun_choose s y Q true r q R S = R refl
+  begun_choose s y Q false r q R S = S refl
 
-  pub begun_fewer : {A : Type 0} (C D : Seen → Type 0) (P Q : Tokens) (r : Reader A) → ((x : Seen) → D x → C x) → ((x : Shape) → Q x ≡ true → P x ≡ true) → Begun body C P r → Begun body D Q r
-  begun_fewer C D P Q r sub up R = record { tokens = λ x c. R.tokens x (sub x c); finishes = λ x c N v i j new e h q. R.finishes x (sub x c) N v i j new e h (up (raw_at v j) q) }
+  pub begun_fewer : {A : Type 0} (s : State) (y : Shape) (P Q : Tokens) (r : Reader A) → ((x : Shape) → Q x ≡ true → P x ≡ true) → Begun body s y P r → Begun body s y Q r
+  begun_fewer s y P Q r up R = record { tokens = R.tokens; finishes = λ N v i j new e h q. R.finishes N v i j new e h (up (raw_at v j) q) }
 
-  pub begun_choose : {A : Type 0} (C : Seen → Type 0) (Q : Tokens) (b : Bool) (r q : Reader A) → (b ≡ true → Begun body C Q r) → (b ≡ false → Begun body C Q q) → Begun body C Q (choose b r q)
-  begun_choose C Q true r q R S = R refl
-  begun_choose C Q false r q R S = S refl
+  -- a phrase that begins with this token, if it is no word
+  pub begun_phrase : {A : Type 0} (s : State) (y : Shape) (Q : Tokens) (r : Reader A) (u : List Shape) → ((n : ℕ) → renewed n y ≡ y) → Finishes body s Q r (y ∷ u) → Begun body s y Q r
+  begun_phrase s y Q r u same F = record { tokens = u; finishes = λ N v i j new e h q. F N v i j new (e ∙ sym (same (N + i)), h) q }
