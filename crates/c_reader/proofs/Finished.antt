@@ -1,13 +1,13 @@
 -- What the answers of a reader say of the tokens: a token that is refused is the first that no tokens have that are read,
 -- and one for which levels are missing is too deep in all those.
-use Rattle.std.proofs.Common.{◌≡◌, refl, ℕ, ◌<◌, ◌≤◌, max, true, List, Ok, Err, arith}
+use Rattle.std.proofs.Common.{◌≡◌, ℕ, ◌<◌, ◌≤◌, max, true, List, Ok, Err, arith}
 use Rattle.c_tokens.specs.declared.token.Shape.{Shape}
 use Rattle.c_tokens.specs.declared.token.Shape.TheVariants as shape
 use Rattle.c_reader.specs.declared.refusal.Refusal.TheVariants.{Syntax, TooDeep}
 use Rattle.c_reader.specs.States.{State}
-use Rattle.c_reader.specs.Tokens.{Spot, spot, raw_at, Agree}
-use Rattle.c_reader.specs.Readers.{Input, Reader, Outcome, Rule, Body, read}
-use Rattle.c_reader.specs.Laws.{from, any_levels, IsRead, Dead, Completion, IsFirstDead, IsTooDeep}
+use Rattle.c_reader.specs.Tokens.{Spot, spot, raw_at}
+use Rattle.c_reader.specs.Readers.{Input, Reader, Outcome, Rule, Body, Reads, read}
+use Rattle.c_reader.specs.Laws.{from, any_levels, Dead, Completion, IsFirstDead, IsTooDeep}
 use Rattle.c_reader.proofs.Bounds.{Tame}
 use Rattle.c_reader.proofs.Local.{Same, local, Onward, onward}
 use Rattle.c_reader.proofs.Deeper.{Deeper, deeper}
@@ -65,3 +65,11 @@ module _ {A : Type 0} (body : Body) (bodies : (n : Rule) → Tame body (body n))
     -- one for which levels are missing stands in tokens that are read, and is too deep in all those
     pub only_deep : (k : ℕ) → read body d r (from w i) ≡ Err (TooDeep k) → IsTooDeep d body r i w k
     only_deep k e = (too_deep d w k e, completion k (lacks_at i.place w k _ e (onward body d w r i)) (lacks _ k e))
+
+-- ---- what a function's answer says of the outcome
+
+pub refused_so : {A : Type 0} (o : Outcome A) (k : ℕ) (new : Input) → Reads o (Err (Syntax k)) new → o ≡ Err (Syntax k)
+refused_so o k new h = h (λ e. absurd (cc e))
+
+pub lacking_so : {A : Type 0} (o : Outcome A) (k : ℕ) (new : Input) → Reads o (Err (TooDeep k)) new → o ≡ Err (TooDeep k)
+lacking_so o k new h = h (λ e. absurd (cc e))

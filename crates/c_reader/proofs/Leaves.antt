@@ -1,10 +1,10 @@
 -- What is known of the state in which a reader answers.
-use Rattle.std.proofs.Common.{◌≡◌, refl, subst, ap, sym, ◌∙◌, ℕ, zero, suc, ◌+◌, nat_lt, Bool, true, false, length, Option, Some, None, Ok, Err}
+use Rattle.std.proofs.Common.{◌≡◌, refl, subst, ap, sym, ◌∙◌, ℕ, zero, suc, ◌+◌, nat_lt, Bool, true, false, length, Option, Some, None, Ok}
 use Rattle.c_tokens.specs.declared.token.Shape.{Shape}
 use Rattle.c_forms.specs.declared.pieces.Event.{Event}
 use Rattle.c_reader.specs.States.{State, Seen, seen, happens, noted}
 use Rattle.c_reader.specs.Tokens.{Spot, spot, raw_at}
-use Rattle.c_reader.specs.Readers.{Input, Reader, Outcome, Turn, More, Last, Rule, Body, Found, Give, Refuse, Look, Next, Pick, Note, Bind, Fits, Call, Loop, Ask, Change, run, read, below, pick, when, choose, turn_while, next, change}
+use Rattle.c_reader.specs.Readers.{Input, Reader, Outcome, Turn, More, Last, Rule, Body, Found, Give, Refuse, Look, Next, Pick, Note, Bind, Fits, Call, Loop, Ask, Change, run, below, pick, when, choose, turn_while, next, change}
 use Rattle.c_reader.proofs.Loops.{split, same_answer, same_place, kept}
 
 -- an answer meets J, with the state after it

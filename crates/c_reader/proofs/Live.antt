@@ -1,12 +1,11 @@
 -- Readers each of whose answers can be completed: after each token that such a reader takes there is a phrase that
 -- finishes it.
-use Rattle.std.proofs.Common.{◌≡◌, refl, ℕ, suc, ◌+◌, ◌<◌, ◌≤◌, Bool, true, false, List, [], Err, Ok, arith}
+use Rattle.std.proofs.Common.{◌≡◌, refl, ℕ, suc, ◌+◌, ◌<◌, ◌≤◌, Bool, true, false, List, [], Err, Ok}
 use Rattle.c_tokens.specs.declared.token.Shape.{Shape}
-use Rattle.c_forms.specs.declared.pieces.Event.{Event}
 use Rattle.c_reader.specs.declared.refusal.Refusal.TheVariants.{Memory, Syntax, TooDeep}
 use Rattle.c_reader.specs.States.{State, Seen, seen, happens}
 use Rattle.c_reader.specs.Tokens.{Spot, spot, raw_at, Agree}
-use Rattle.c_reader.specs.Readers.{Reader, Outcome, Turn, More, Last, Rule, Body, Found, Give, Refuse, Look, Next, Pick, Note, Bind, Fits, Call, Loop, Ask, Change, choose, turn_while, repeat}
+use Rattle.c_reader.specs.Readers.{Reader, Outcome, More, Last, Rule, Body, Give, Refuse, Look, Next, Pick, Note, Bind, Fits, Call, Loop, Ask, Change, choose, turn_while, repeat}
 use Rattle.c_reader.proofs.Bounds.{Bounded}
 use Rattle.c_reader.proofs.Fresh.{Fresh}
 use Rattle.c_reader.proofs.Leaves.{Leaves, Turned, anyhow, leaves_anyhow, leaves_turn}

@@ -7,10 +7,10 @@ use Rattle.c_forms.specs.declared.pieces.Event.{Event}
 use Rattle.c_reader.specs.declared.refusal.Refusal.TheVariants.{Memory, Syntax, TooDeep}
 use Rattle.c_reader.specs.States.{State, Seen, seen, happens, noted}
 use Rattle.c_reader.specs.Tokens.{Spot, spot, step, turned, raw_at, seen_at, Agree}
-use Rattle.c_reader.specs.Readers.{Input, Reader, Outcome, Turn, More, Last, Rule, Body, Found, Give, Refuse, Look, Next, Pick, Note, Bind, Fits, Call, Loop, Ask, Change, read, below, pick, when, and_then, after, loop}
+use Rattle.c_reader.specs.Readers.{Input, Reader, Outcome, Turn, More, Last, Rule, Body, Give, Refuse, Look, Next, Pick, Note, Bind, Fits, Call, Loop, Ask, Change, read, below, pick, when, and_then, after, loop}
 use Rattle.c_reader.proofs.Bounds.{Bounded, Tame}
 use Rattle.c_reader.proofs.Local.{from, Same, local, Onward, onward}
-use Rattle.c_reader.proofs.Fresh.{Fresh, freshly, fresh_step, fresh_event}
+use Rattle.c_reader.proofs.Fresh.{freshly, fresh_step, fresh_event}
 use Rattle.c_reader.proofs.Leaves.{Leaves, Turned, anyhow}
 use Rattle.c_reader.proofs.Phrases.{left_so, Tokens, Here, Ends, Finishes, Phrase, Way, Begun, here_split, opens_first, still, ends_bind, raised, called, ends_more, ends_turn}
 use Rattle.c_reader.proofs.Live.{Calls, Live, Before, Continues}

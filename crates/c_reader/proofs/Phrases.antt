@@ -1,13 +1,13 @@
 -- Phrases: lists of tokens that a reader takes, wherever they stand.
-use Rattle.std.proofs.Common.{◌≡◌, refl, subst, ap, sym, ◌∙◌, ℕ, suc, ◌+◌, ◌<◌, ◌≤◌, max, nat_lt, Bool, true, false, List, [], ◌∷◌, ◌++◌, Some, Ok, nat_eq, Option, arith}
+use Rattle.std.proofs.Common.{◌≡◌, refl, subst, ap, sym, ◌∙◌, ℕ, suc, ◌+◌, ◌<◌, ◌≤◌, max, Bool, true, false, List, [], ◌∷◌, ◌++◌, Some, Ok, nat_eq, Option, arith}
 use Rattle.std.proofs.lemmas.Bool.{lt-ltb}
 use Rattle.std.proofs.lemmas.List.{append-nil}
 use Rattle.c_tokens.specs.declared.token.Shape.{Shape}
 use Rattle.c_tokens.specs.declared.token.Shape.TheVariants as shape
 use Rattle.c_forms.specs.declared.pieces.Event.{Event}
-use Rattle.c_reader.specs.States.{State, Seen, seen, class, happens, noted}
-use Rattle.c_reader.specs.Tokens.{Spot, spot, step, turned, raw_at, seen_at}
-use Rattle.c_reader.specs.Readers.{Input, Reader, Outcome, Turn, More, Last, Rule, Body, Found, Give, Look, Next, Pick, Note, Bind, Fits, Call, Loop, Ask, Change, read, below, pick, choose, only, token, turn_while, repeat}
+use Rattle.c_reader.specs.States.{State, Seen, seen, happens, noted}
+use Rattle.c_reader.specs.Tokens.{Spot, spot, raw_at, seen_at}
+use Rattle.c_reader.specs.Readers.{Input, Reader, Outcome, Turn, More, Last, Rule, Body, Give, Look, Next, Pick, Note, Bind, Fits, Call, Loop, Ask, Change, read, below, pick, choose, only, token, turn_while, repeat}
 use Rattle.c_reader.proofs.Sets.{itself}
 use Rattle.c_reader.proofs.Seen.{written}
 use Rattle.c_reader.proofs.Bounds.{Bounded}

@@ -14,8 +14,8 @@ use Rattle.c_tokens.specs.ClassOf.{class_of}
 use Rattle.c_tokens.proofs.ClassLimits.{class_of_common}
 use Rattle.c_forms.specs.declared.pieces.Event.TheVariants.{Enter}
 use Rattle.c_forms.specs.Sets.{Classes, has, type_word}
-use Rattle.c_reader.specs.States.{State, Seen, happens, is_type, class, seen, word_class}
-use Rattle.c_reader.proofs.Sets.{both, not_true, contrary, itself}
+use Rattle.c_reader.specs.States.{State, happens, is_type, class, seen, word_class}
+use Rattle.c_reader.proofs.Sets.{both, not_true, contrary}
 
 -- the class of a word that is a value
 abbrev pub word : ℕ
@@ -78,7 +78,6 @@ between_states s t x = elim (alike s x) [
   ]
   | inr a ↦ inr a.0
 ]
-
 
 -- a set that has both classes of words, or none of them, is the same in all states
 pub unseeing : (f : Classes) (s t : State) (x : Shape) → has f word ≡ has f type_word → has f (class s x) ≡ has f (class t x)
