@@ -13,3 +13,4 @@ pub mod Live
 pub mod LiveFrom
 pub mod Completed
 pub mod Finished
+mod Worked

@@ -1,15 +1,16 @@
 -- Phrases: lists of tokens that a reader takes, wherever they stand.
-use Rattle.std.proofs.Common.{◌≡◌, refl, subst, ap, sym, ◌∙◌, ℕ, suc, ◌+◌, ◌<◌, ◌≤◌, max, Bool, true, false, List, [], ◌∷◌, ◌++◌, Some, Ok, nat_eq, Option, arith}
+use Rattle.std.proofs.Common.{◌≡◌, refl, subst, ap, sym, ◌∙◌, ℕ, suc, ◌+◌, ◌<◌, ◌≤◌, max, not, Bool, true, false, List, [], ◌∷◌, ◌++◌, Some, Ok, nat_eq, Option, arith}
 use Rattle.std.proofs.lemmas.Bool.{lt-ltb}
 use Rattle.std.proofs.lemmas.List.{append-nil}
 use Rattle.c_tokens.specs.declared.token.Shape.{Shape}
 use Rattle.c_tokens.specs.declared.token.Shape.TheVariants as shape
 use Rattle.c_forms.specs.declared.pieces.Event.{Event}
-use Rattle.c_reader.specs.States.{State, Seen, seen, happens, noted}
+use Rattle.c_forms.specs.Sets.{Classes, has}
+use Rattle.c_reader.specs.States.{State, Seen, seen, class, happens, noted}
 use Rattle.c_reader.specs.Tokens.{Spot, spot, raw_at, seen_at}
 use Rattle.c_reader.specs.Readers.{Input, Reader, Outcome, Turn, More, Last, Rule, Body, Give, Look, Next, Pick, Note, Bind, Fits, Call, Loop, Ask, Change, read, below, pick, choose, only, token, turn_while, repeat}
-use Rattle.c_reader.proofs.Sets.{itself}
-use Rattle.c_reader.proofs.Seen.{written}
+use Rattle.c_reader.proofs.Sets.{itself, not_true}
+use Rattle.c_reader.proofs.Seen.{written, blur, blurred}
 use Rattle.c_reader.proofs.Bounds.{Bounded}
 use Rattle.c_reader.proofs.Repeats.{goes_on, ends_with}
 use Rattle.c_reader.proofs.Advance.{over}
@@ -24,6 +25,10 @@ Tokens = Shape → Bool
 
 abbrev pub anything : Tokens
 anything x = true
+
+-- the tokens that are not written with a class of this set
+abbrev pub but : (ℕ → Bool) → Tokens
+but f x = not (f (written x))
 
 -- a word of a phrase stands for a new one
 abbrev pub renewed : ℕ → Shape → Shape
@@ -86,9 +91,17 @@ pub renewed_written : (n : ℕ) (x : Shape) → written (renewed n x) ≡ writte
 renewed_written n (shape.Word w) = refl
 renewed_written n _ = refl
 
--- a set that is told by the class has all words or none
-pub opens_class : (P : ℕ → Bool) (x : Shape) (u : List Shape) (Q : Tokens) → P (written x) ≡ true → Opens (λ y. P (written y)) (x ∷ u) Q
-opens_class P x u Q h n = ap P (renewed_written n x) ∙ h
+-- what opens the phrase is not of the set
+pub opens_but : (f : ℕ → Bool) (x : Shape) (u : List Shape) (Q : Tokens) → f (written x) ≡ false → Opens (but f) (x ∷ u) Q
+opens_but f x u Q h n = ap not (ap f (renewed_written n x) ∙ h)
+
+-- nor what follows, where the phrase is empty
+pub opens_past : (f : ℕ → Bool) (Q : Tokens) → ((x : Shape) → Q x ≡ true → f (written x) ≡ false) → Opens (but f) [] Q
+opens_past f Q h x q = ap not (h x q)
+
+-- it is seen as none of the set, whatever the state
+pub quiet : (f : Classes) (s : State) (x : Shape) → but (blur f) x ≡ true → has f (class s x) ≡ false
+quiet f s x h = blurred f s x (not_true (blur f (written x)) h)
 
 pub opens_anything : (u : List Shape) (Q : Tokens) → Opens anything u Q
 opens_anything [] Q = λ x q. refl
