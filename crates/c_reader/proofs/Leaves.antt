@@ -4,7 +4,7 @@ use Rattle.c_tokens.specs.declared.token.Shape.{Shape}
 use Rattle.c_forms.specs.declared.pieces.Event.{Event}
 use Rattle.c_reader.specs.States.{State, Seen, seen, happens, noted}
 use Rattle.c_reader.specs.Tokens.{Spot, spot, raw_at}
-use Rattle.c_reader.specs.Readers.{Input, Reader, Outcome, Turn, More, Last, Rule, Body, Found, Give, Refuse, Look, Next, Pick, Note, Bind, Fits, Call, Loop, Ask, Change, run, below, pick, when, choose, turn_while, next, change}
+use Rattle.c_reader.specs.Readers.{Input, Reader, Outcome, Turn, More, Last, Rule, Body, Found, Give, Refuse, Look, Next, Pick, Note, Bind, Fits, Call, Loop, Ask, Change, run, below, pick, when, choose, turn_while, repeat, next, change}
 use Rattle.c_reader.proofs.Loops.{split, same_answer, same_place, kept}
 
 -- an answer meets J, with the state after it
@@ -90,12 +90,18 @@ module _ (B : Rule → Input → Outcome Found) (d : ℕ) where
   leaving_choose s y false r q J R S = S refl
 
 -- a turn that is taken while a test of the next token holds
-pub leaves_turn : {S : Type 0} (body : Body) (K : S → State → Type 0) (goes : S → Seen → Bool) (item : Seen → S → Reader S) (t : S) (s : State) (y : Shape) → (goes t (seen s y) ≡ true → Leaves body s y (item (seen s y) t) K)
-    → Leaves body s y (turn_while goes item t) (Turned {A = S} K anyhow)
-leaves_turn {S} body K goes item t s y J d = let B : Rule → Input → Outcome Found = below body d in leaving_look B d s y (λ x. choose (goes t x) (Bind (item x t) (λ u. Give (More u))) (Give (Last t))) (Turned {A = S} K anyhow)
-    (leaving_choose B d s y (goes t (seen s y)) (Bind (item (seen s y) t) (λ u. Give (More u))) (Give (Last t)) (Turned {A = S} K anyhow)
-    (λ e. leaving_bind B d s y (item (seen s y) t) (λ u. Give (More u)) K (Turned {A = S} K anyhow) (J e d) (λ u z x k. leaving_give B d z x (More u) (Turned {A = S} K anyhow) k))
-    (λ _. leaving_give B d s y (Last t) (Turned {A = S} K anyhow) tt))
+pub leaves_turn : {S : Type 0} (body : Body) (K J : S → State → Type 0) (goes : S → Seen → Bool) (item : Seen → S → Reader S) (t : S) (s : State) (y : Shape) → (goes t (seen s y) ≡ true → Leaves body s y (item (seen s y) t) K)
+    → (goes t (seen s y) ≡ false → J t s) → Leaves body s y (turn_while goes item t) (Turned K J)
+leaves_turn body K J goes item t s y L h d = let B : Rule → Input → Outcome Found = below body d in
+    leaving_look B d s y (λ x. choose (goes t x) (Bind (item x t) (λ u. Give (More u))) (Give (Last t))) (Turned K J)
+    (leaving_choose B d s y (goes t (seen s y)) (Bind (item (seen s y) t) (λ u. Give (More u))) (Give (Last t)) (Turned K J)
+    (λ e. leaving_bind B d s y (item (seen s y) t) (λ u. Give (More u)) K (Turned K J) (L e d) (λ u z x k. leaving_give B d z x (More u) (Turned K J) k))
+    (λ e. leaving_give B d s y (Last t) (Turned K J) (h e)))
+
+-- what each turn keeps
+pub leaves_repeat : {S : Type 0} (body : Body) (K : S → State → Type 0) (goes : S → Seen → Bool) (item : Seen → S → Reader S) (t : S) (s : State) (y : Shape) → K t s
+    → ((t : S) (z : State) (x : Shape) → K t z → goes t (seen z x) ≡ true → Leaves body z x (item (seen z x) t) K) → Leaves body s y (repeat goes item t) K
+leaves_repeat body K goes item t s y k L d = leaving_loop (below body d) d s y (turn_while goes item) t K K k (λ t z x k. leaves_turn body K K goes item t z x (L t z x k) (λ _. k) d)
 
 -- ---- calls
 

@@ -82,7 +82,7 @@ module _ (body : Body) (calls : Calls) where
       k,
       (
         λ t z x k. live_choose deep z x Q (goes t (seen z x)) (Bind (item (seen z x) t) (λ u. Give (More u))) (Give (Last t)) (λ e. live_map deep z x Q Q (item (seen z x) t) More (λ x q. q) (L t z x k e)) (λ _. tt),
-        (λ t z x k. leaves_turn body K goes item t z x (J t z x k), λ t z k. fin_over body z Q goes item B t (λ x q. none t z x k q)),
+        (λ t z x k. leaves_turn body K anyhow goes item t z x (J t z x k) (λ _. tt), λ t z k. fin_over body z Q goes item B t (λ x q. none t z x k q)),
       ),
     ),
   )
