@@ -10,8 +10,8 @@ use Rattle.c_reader.specs.Readers.{Input, Reader, Outcome, Rule, Body, Reads, re
 use Rattle.c_reader.specs.Laws.{from, any_levels, Dead, Completion, IsFirstDead, IsTooDeep}
 use Rattle.c_reader.proofs.Bounds.{Tame}
 use Rattle.c_reader.proofs.Local.{Same, local, Onward, onward}
-use Rattle.c_reader.proofs.Deeper.{Deeper, deeper}
-use Rattle.c_reader.proofs.Phrases.{Tokens, risen}
+use Rattle.c_reader.proofs.Deeper.{Deeper, deeper, still_ok}
+use Rattle.c_reader.proofs.Phrases.{Tokens}
 use Rattle.c_reader.proofs.Live.{Calls, Live, Before}
 use Rattle.c_reader.proofs.Completed.{Whole, completed}
 
@@ -36,14 +36,14 @@ module _ {A : Type 0} (body : Body) (bodies : (n : Rule) → Tame body (body n))
   dead d w k e v a R =
       let more : ℕ = max d R.levels in
       let bad : read body more r (from v i) ≡ Err (Syntax k) = still_refused v k _ _ _ e (local body bodies k w v a d r i T) (deeper body d more (omega arith) r (from v i)) in
-      let good : read body more r (from v i) ≡ Ok (R.answer, from v R.after) = risen _ _ R.answer (from v R.after) R.reads (deeper body R.levels more (omega arith) r (from v i)) in
+      let good : read body more r (from v i) ≡ Ok (R.answer, from v R.after) = still_ok body R.levels more (omega arith) r (from v i) R.answer (from v R.after) R.reads in
       absurd (cc (bad, good))
 
   -- nor with one for which levels are missing, with as many levels
   pub too_deep : (d : ℕ) (w : List Shape) (k : ℕ) → read body d r (from w i) ≡ Err (TooDeep k) → Dead (λ e. e ≤ d) body r i w k
   too_deep d w k e v a R =
       let bad : read body d r (from v i) ≡ Err (TooDeep k) = still_lacking v k _ _ e (local body bodies k w v a d r i T) in
-      let good : read body d r (from v i) ≡ Ok (R.answer, from v R.after) = risen _ _ R.answer (from v R.after) R.reads (deeper body R.levels d R.allowed r (from v i)) in
+      let good : read body d r (from v i) ≡ Ok (R.answer, from v R.after) = still_ok body R.levels d R.allowed r (from v i) R.answer (from v R.after) R.reads in
       absurd (cc (bad, good))
 
   whole_read : (w : List Shape) (p : ℕ) → Whole body r i w p → Completion body r i w p

@@ -9,14 +9,11 @@ use Rattle.c_reader.specs.States.{State, Seen, seen, happens, noted}
 use Rattle.c_reader.specs.Tokens.{Spot, spot, step, turned, raw_at, seen_at, Agree}
 use Rattle.c_reader.specs.Readers.{Input, Reader, Outcome, Turn, More, Last, Rule, Body, Give, Refuse, Look, Next, Pick, Note, Bind, Fits, Call, Loop, Ask, Change, read, below, pick, when, and_then, after, loop}
 use Rattle.c_reader.proofs.Bounds.{Bounded, Tame}
-use Rattle.c_reader.proofs.Local.{from, Same, local, Onward, onward}
+use Rattle.c_reader.proofs.Local.{from, already, Onward, onward}
 use Rattle.c_reader.proofs.Fresh.{freshly, fresh_step, fresh_event}
 use Rattle.c_reader.proofs.Leaves.{Leaves, Turned, anyhow}
 use Rattle.c_reader.proofs.Phrases.{left_so, Tokens, Here, Ends, Finishes, Phrase, Way, Begun, here_split, opens_first, still, ends_bind, raised, called, ends_more, ends_turn}
 use Rattle.c_reader.proofs.Live.{Calls, Live, Before, Continues}
-
-settled : {A : Type 0} (k : ℕ) (v : List Shape) (o q : Outcome A) (a : A) (m : Spot) (w : List Shape) → o ≡ Ok (a, from w m) → m.place ≤ k → Same k v o q → q ≡ Ok (a, from v m)
-settled k v o q a m w e le h = (rw e at h) le
 
 module _ (body : Body) (bodies : (n : Rule) → Tame body (body n)) where
   left_alike : {A : Type 0} (J : A → State → Type 0) (r : Reader A) (w v : List Shape) (i : Spot) (p : ℕ) → i.place ≤ p → Agree p w v → Leaves body i.state (raw_at w i.place) r J → Leaves body i.state (raw_at v i.place) r J
@@ -32,16 +29,12 @@ module _ (body : Body) (bodies : (n : Rule) → Tame body (body n)) where
         ends_bind body r f v i s.0 j E (W.finishes E.value E.state known N v s.0 j (still body N v i s.0 r z E) s.1.1 quiet);
   }
 
-  -- what was read of w is read of what agrees with it
-  already : {A : Type 0} (d : ℕ) (r : Reader A) (w v : List Shape) (p : ℕ) (i m : Spot) (a : A) → Tame body r → read body d r (from w i) ≡ Ok (a, from w m) → m.place ≤ p → Agree p w v → read body d r (from v i) ≡ Ok (a, from v m)
-  already d r w v p i m a T e le agree = settled p v _ _ a m w e le (local body bodies p w v agree d r i T)
-
   after_first : {A B : Type 0} (Q : Tokens) (d : ℕ) (r : Reader B) (f : B → Reader A) (w : List Shape) (i m : Spot) (p : ℕ) (b : B) → Tame body r → read body d r (from w i) ≡ Ok (b, from w m) → m.place ≤ p
       → Continues body Q (f b) w m p → Continues body Q (Bind r f) w i p
   after_first Q d r f w i m p b T e le C = record {
     tokens = C.tokens;
     finishes = λ N v j z agree here quiet.
-        let A : read body d r (from v i) ≡ Ok (b, from v m) = already d r w v p i m b T e le agree in
+        let A : read body d r (from v i) ≡ Ok (b, from v m) = already body bodies d r w v p i m b T e le agree in
         ends_bind body r f v i m.place j (record { levels = d; value = b; state = m.state; reads = A }) (C.finishes N v j (freshly body N v i z d r b m A) agree here quiet);
   }
 
@@ -69,7 +62,7 @@ module _ (body : Body) (bodies : (n : Rule) → Tame body (body n)) where
     after_turn s t i m e le C = record {
       tokens = C.tokens;
       finishes = λ N v j z agree here q.
-          let A : read body d (f s) (from v i) ≡ Ok (More t, from v m) = already d (f s) w v p i m (More t) (T s) e le agree in
+          let A : read body d (f s) (from v i) ≡ Ok (More t, from v m) = already body bodies d (f s) w v p i m (More t) (T s) e le agree in
           ends_more body f B s t v i m j d A (C.finishes N v j (freshly body N v i z d (f s) (More t) m A) agree here q);
     }
 

@@ -8,7 +8,7 @@ use Rattle.c_forms.specs.declared.pieces.Event.{Event}
 use Rattle.c_forms.specs.Sets.{Classes, has}
 use Rattle.c_reader.specs.States.{State, Seen, seen, class, happens, noted}
 use Rattle.c_reader.specs.Tokens.{Spot, spot, raw_at, seen_at}
-use Rattle.c_reader.specs.Readers.{Input, Reader, Outcome, Turn, More, Last, Rule, Body, Give, Look, Next, Pick, Note, Bind, Fits, Call, Loop, Ask, Change, read, below, pick, choose, only, token, turn_while, repeat}
+use Rattle.c_reader.specs.Readers.{Reader, Turn, More, Last, Rule, Body, Give, Look, Next, Pick, Note, Bind, Fits, Call, Loop, Ask, Change, read, below, pick, choose, only, token, turn_while, repeat}
 use Rattle.c_reader.proofs.Sets.{itself, not_true}
 use Rattle.c_reader.proofs.Seen.{written, blur, blurred}
 use Rattle.c_reader.proofs.Bounds.{Bounded}
@@ -17,7 +17,7 @@ use Rattle.c_reader.proofs.Advance.{over}
 use Rattle.c_reader.proofs.Leaves.{Leaves, Turned, anyhow, leaves_anyhow}
 use Rattle.c_reader.proofs.Local.{from}
 use Rattle.c_reader.proofs.Fresh.{Fresh, freshly, fresh_step, fresh_event, new_word}
-use Rattle.c_reader.proofs.Deeper.{Deeper, deeper}
+use Rattle.c_reader.proofs.Deeper.{risen, deeper}
 
 -- sets of tokens as they are written
 abbrev pub Tokens : Type 0
@@ -116,9 +116,6 @@ opens_first N P Q [] v m j q h e = q (raw_at v m) (ap (λ k. Q (raw_at v k)) h �
 opens_first N P Q (a ∷ x) v m j q h e = ap P h.0 ∙ q (N + m)
 
 -- ---- putting readings together
-
-pub risen : {A : Type 0} (o q : Outcome A) (a : A) (j : Input) → o ≡ Ok (a, j) → Deeper o q → q ≡ Ok (a, j)
-risen o q a j e h = rw e at h
 
 module _ (body : Body) where
   pub at_levels : {A : Type 0} (r : Reader A) (v : List Shape) (i : Spot) (j : ℕ) (E : Ends body r v i j) (d : ℕ) → E.levels ≤ d → read body d r (from v i) ≡ Ok (E.value, from v (spot j E.state))
