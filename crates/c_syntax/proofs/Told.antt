@@ -1,0 +1,94 @@
+-- What a reading told: where it ended, and what is spelled up to there.
+use Rattle.std.proofs.Common.{◌≡◌, refl, subst, ap, sym, ◌∙◌, ℕ, zero, suc, ◌+◌, ◌<◌, ◌≤◌, nat_lt, Bool, true, false, List, Ok, arith}
+use borrow.Author.Tests.{ltb-true}
+use Rattle.c_tokens.specs.declared.token.Shape.{Shape}
+use Rattle.c_forms.specs.declared.pieces.Sort.{Sort}
+use Rattle.c_forms.specs.declared.pieces.Sort.TheVariants as s
+use Rattle.c_forms.specs.Forests.{Plain}
+use Rattle.c_reader.specs.Tokens.{Spot, step}
+use Rattle.c_reader.specs.Readers.{Input, Outcome, Reader, Found, Of, Call, Give, Bind, read, below, and_then, when}
+use Rattle.c_reader.proofs.Local.{from}
+use Rattle.c_reader.proofs.Loops.{Split, split, same_answer, same_place, same_pair}
+use Rattle.c_syntax.specs.Allowed.{places}
+use Rattle.c_syntax.specs.Reading.{deeper, called}
+use Rattle.c_syntax.specs.Grammar.{body}
+use Rattle.c_syntax.specs.Spells.{Spelling, nothing_spelled, InPlace, Spells}
+
+abbrev pub levels : ℕ → Type 0
+levels zero = ⊥
+levels (suc n) = Unit {0}
+
+-- what spells parts, where n levels are left above them
+abbrev pub lower : ℕ → List Shape → Spelling
+lower zero w = nothing_spelled
+lower (suc n) w = Spells n w
+
+-- what spells a tree where it stands, with n levels left, and k nodes in one another that do not count for the height
+abbrev pub In : ℕ → ℕ → List Shape → Spelling
+In k n w = InPlace k (levels n) (lower n w) w
+
+pub some_level : (n : ℕ) → 0 < n → levels n
+some_level zero h = absurd (omega arith)
+some_level (suc n) h = tt
+
+pub spelled_in : (n : ℕ) (w : List Shape) (due : Sort) (least : ℕ) (t : Plain) (i j : Spot) → In places n w due least t i j → Spells n w due least t i j
+unfolding Spells
+spelled_in zero w due least t i j P = P
+spelled_in (suc n) w due least t i j P = P
+
+pub in_spelled : (n : ℕ) (w : List Shape) (due : Sort) (least : ℕ) (t : Plain) (i j : Spot) → Spells n w due least t i j → In places n w due least t i j
+unfolding Spells
+in_spelled zero w due least t i j P = P
+in_spelled (suc n) w due least t i j P = P
+
+-- A reading ended at p, and what was read is spelled at each depth from its height on.
+pub record Tells (d : ℕ) (w : List Shape) (height : ℕ) (T : ℕ → Spot → Type 0) (p : Input) : Type 0 where
+  pub place : Spot
+  pub placed : p ≡ from w place
+  pub high : height ≤ d
+  pub spelled : (n : ℕ) → height ≤ n → T n place
+
+-- a tree that was read from a place is spelled so from there
+abbrev pub Says : ℕ → List Shape → (ℕ → Plain → Spot → Spot → Type 0) → Spot → Found → Input → Type 0
+Says d w T i x p = Tells d w x.height (λ n j. T n x.tree i j) p
+
+-- a tree that was called, one level deeper
+pub record Called (d : ℕ) (w : List Shape) (T : ℕ → Spot → Type 0) (height : ℕ) (p : Input) : Type 0 where
+  pub place : Spot
+  pub placed : p ≡ from w place
+  pub high : height < d
+  pub spelled : (n : ℕ) → height ≤ n → T n place
+
+-- no declarator binds tighter than a function's
+abbrev pub is_due : Sort → ℕ → Bool
+is_due s.Declarator least = nat_lt least 3
+is_due s.AbstractDeclarator least = nat_lt least 3
+is_due s.ParamDeclarator least = nat_lt least 3
+is_due s.MemberName least = nat_lt least 3
+is_due _ least = true
+
+-- What is called is spelled.
+abbrev pub Calls : ℕ → List Shape → Type 0
+Calls d w = (due : Sort) (least : ℕ) (i : Spot) (x : Found) (p : Input) → is_due due least ≡ true → below body d (Of due least) (from w i) ≡ Ok (x, p)
+    → Called d w (λ n j. Spells n w due least x.tree i j) x.height p
+
+pub lowered : (w : List Shape) (due : Sort) (least : ℕ) (t : Plain) (i j : Spot) (h n : ℕ) → ((n : ℕ) → h ≤ n → Spells n w due least t i j) → h + 1 ≤ n → lower n w due least t i j
+lowered w due least t i j h zero f le = absurd (omega arith)
+lowered w due least t i j h (suc n) f le = f n (omega arith)
+
+pub roomy : {A : Type 0} (d h : ℕ) (b : Bool) (o : Outcome A) (i : ℕ) (x : A) (p : Input) → nat_lt h d ≡ b → when b o i ≡ Ok (x, p) → (h < d) × (o ≡ Ok (x, p))
+roomy d h true o i x p y e = (ltb-true h d y, e)
+roomy d h false o i x p y e = absurd cc
+
+-- a part one level deeper
+pub called_says : (d : ℕ) (w : List Shape) (E : Calls d w) (due : Sort) (least : ℕ) (i : Spot) (x : Found) (p : Input) → is_due due least ≡ true
+    → read body d (called due least) (from w i) ≡ Ok (x, p) → Says d w (λ n. lower n w due least) i x p
+called_says d w E due least i x p g h =
+    let a = split (below body d (Of due least) (from w i)) (λ x k. Ok (deeper x, k)) x p h in
+    let C = E due least i a.value a.place g a.first in
+    subst (λ (y : Found × Input). Says d w (λ n. lower n w due least) i y.0 y.1) (same_pair (deeper a.value) x a.place p a.second) (record {
+      place = C.place;
+      placed = C.placed;
+      high = omega (arith, C.high);
+      spelled = λ n le. lowered w due least a.value.tree i C.place a.value.height n C.spelled le;
+    })
