@@ -34,6 +34,12 @@ pub record Gathers (d : ℕ) (w : List Shape) (r : Repetition) (T : ℕ → Spot
   pub high : g.height ≤ d
   pub spelled : (n : ℕ) → g.height ≤ n → T n place
 
+-- `least` of a repetition is 0 or 1
+abbrev pub is_small : Repetition → Bool
+is_small (Many separator least) = nat_lt least 2
+is_small (Spliced separator least) = nat_lt least 2
+is_small _ = true
+
 -- a token goes on with a list: the separator, where there is one
 abbrev pub On : Option Class → ℕ → Type 0
 On (Some c) x = x ≡ class_number c
@@ -250,12 +256,6 @@ module _ (d : ℕ) (w : List Shape) (T : ℕ → Plain → Spot → Spot → Typ
       by_test : (b : Bool) → read body d (choose b (many (Spliced separator least) due r i.place) (Give (none_at i.place))) (from w i) ≡ Ok (g, p) → Group (Spliced separator least) due before i g p
       by_test true h = some (Spliced separator least) due before i g p (goes_between separator (element_starts (Spliced separator least) due)) (λ n ts j over E. inr E) h
       by_test false h = none (Spliced separator least) due before i g p (λ n. inl (none_or least small e, (refl, refl))) h
-
-  -- `least` of a repetition is 0 or 1
-  abbrev pub is_small : Repetition → Bool
-  is_small (Many separator least) = nat_lt least 2
-  is_small (Spliced separator least) = nat_lt least 2
-  is_small _ = true
 
   pub gathered_says : (k : Repetition) (due : Sort) (before : Before) (i : Spot) (g : Gathered) (p : Input) → is_small k ≡ true → read body d (gathered_by k due r before i.place) (from w i) ≡ Ok (g, p) → Group k due before i g p
   unfolding many

@@ -1,3 +1,4 @@
 mod Worked
 mod Told
 mod Groups
+mod Parts
