@@ -2,3 +2,4 @@ mod Worked
 mod Told
 mod Groups
 mod Parts
+mod Nodes

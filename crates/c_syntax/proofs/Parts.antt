@@ -49,9 +49,13 @@ abbrev pub fine_first : (Sort → ℕ → Bool) → Sort → List Piece → Bool
 fine_first ok own (Own ∷ ps) = fine ok own ps
 fine_first ok own ps = fine ok own ps
 
-abbrev pub Holds : List Shape → Form → List Piece → Spot → Type 0
-Holds w f (Own ∷ ps) i = held f ≡ Some (raw_at w i.place)
-Holds w f _ i = Unit {0}
+-- the token that a form holds, where that is the first piece
+abbrev pub owned : Form → List Piece → Shape → Option Shape
+owned f (Own ∷ ps) x = held f
+owned f _ x = Some x
+
+abbrev pub Holds : Form → List Piece → Shape → Type 0
+Holds f ps x = owned f ps x ≡ Some x
 
 pub picked : (b : Bool) (u : Unit {0}) (i p : Input) → pick (only b) i ≡ Ok (u, p) → (b ≡ true) × (p ≡ next i)
 picked true u i p h = (refl, sym (same_place tt u (next i) p h))
@@ -233,7 +237,7 @@ module _ (d : ℕ) (w : List Shape) (own : Sort) (f : Form) (part : Parts) (P : 
       ended_then c e b due least before ps i x p (same_class (class_number c) (class_number b) z.0) f.0 (λ m y q. pieces_say Usual ps m y q f.1) (λ m y q. pieces_say Usual (Maybe b ∷ ps) m y q f.1) h
   pieces_say before _ i x p F h = absurd (cc F)
 
-  pub row_says : (ps : List Piece) (i : Spot) (x : Listed) (p : Input) → fine_first ok own ps ≡ true → Holds w f ps i → read body d (pieces_in part own f Usual ps) (from w i) ≡ Ok (x, p) → Lists Usual ps i x p
+  pub row_says : (ps : List Piece) (i : Spot) (x : Listed) (p : Input) → fine_first ok own ps ≡ true → Holds f ps (raw_at w i.place) → read body d (pieces_in part own f Usual ps) (from w i) ≡ Ok (x, p) → Lists Usual ps i x p
   unfolding pieces_in
   row_says (Own ∷ ps) i x p F o h =
       let a = split (pick (only (has (held_class f) (class_at w i))) (from w i)) (λ _ j. read body d (pieces_in part own f Usual ps) j) x p h in

@@ -10,7 +10,7 @@ use Rattle.c_reader.specs.Readers.{Input, Outcome, Reader, Found, Of, Call, Give
 use Rattle.c_reader.proofs.Local.{from}
 use Rattle.c_reader.proofs.Loops.{Split, split, same_answer, same_place, same_pair}
 use Rattle.c_syntax.specs.Allowed.{places}
-use Rattle.c_syntax.specs.Reading.{deeper, called}
+use Rattle.c_syntax.specs.Reading.{Parts, deeper, called}
 use Rattle.c_syntax.specs.Grammar.{body}
 use Rattle.c_syntax.specs.Spells.{Spelling, nothing_spelled, InPlace, Spells}
 
@@ -92,3 +92,46 @@ called_says d w E due least i x p g h =
       high = omega (arith, C.high);
       spelled = λ n le. lowered w due least a.value.tree i C.place a.value.height n C.spelled le;
     })
+
+-- two things that were told of one reading
+pub told_both : (d : ℕ) (w : List Shape) (h : ℕ) (T U : ℕ → Spot → Type 0) (p : Input) → Tells d w h T p → Tells d w h U p → Tells d w h (λ n j. T n j × U n j) p
+told_both d w h T U p A B = record {
+  place = A.place;
+  placed = A.placed;
+  high = A.high;
+  spelled = λ n le. (A.spelled n le, subst (U n) (ap (λ k. k.at) (sym B.placed ∙ A.placed)) (B.spelled n le));
+}
+
+pub told_so : (d : ℕ) (w : List Shape) (h : ℕ) (T U : ℕ → Spot → Type 0) (p : Input) → ((n : ℕ) (j : Spot) → h ≤ n → T n j → U n j) → Tells d w h T p → Tells d w h U p
+told_so d w h T U p f A = record { place = A.place; placed = A.placed; high = A.high; spelled = λ n le. f n A.place le (A.spelled n le) }
+
+-- how deep nodes that do not count for the height may lie in one another, in a tree of a sort
+abbrev pub need : Sort → ℕ
+need s.Exp = 2
+need s.Declarator = 2
+need s.AbstractDeclarator = 2
+need s.ParamDeclarator = 2
+need s.MemberName = 2
+need s.TypeName = 3
+need s.Width = 3
+need s.MemberDeclarator = 4
+need s.Member = 5
+need s.Members = 6
+need s.EnumeratorValue = 3
+need s.Enumerator = 4
+need s.Enumerators = 5
+need s.Param = 3
+need s.Params = 4
+need s.Init = 3
+need s.Initializer = 4
+need s.InitDeclarator = 5
+need s.Decl = 6
+need s.Stmt = 3
+need s.ElsePart = 4
+need s.BlockItem = 6
+need s.Item = 7
+need _ = 1
+
+-- What is read where it stands is spelled.
+abbrev pub Inner : ℕ → List Shape → Parts → Type 0
+Inner d w inner = (k : ℕ) (due : Sort) (least : ℕ) (i : Spot) (x : Found) (p : Input) → is_due due least ≡ true → need due ≤ k → read body d (inner due least) (from w i) ≡ Ok (x, p) → Says d w (λ n. In k n w due least) i x p
