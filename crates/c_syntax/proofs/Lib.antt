@@ -3,3 +3,4 @@ mod Told
 mod Groups
 mod Parts
 mod Nodes
+mod Rows

@@ -1,6 +1,7 @@
 -- A node that was read by its row is spelled by it.
 use Rattle.std.proofs.Common.{◌≡◌, ◌⊎◌, inl, inr, refl, subst, ap, sym, ◌∙◌, ℕ, zero, suc, ◌+◌, ◌<◌, ◌≤◌, max, nat_lt, Bool, true, false, ◌&&◌, List, [], ◌∷◌, ◌++◌, Option, Some, None, Ok, arith}
-use borrow.Author.Tests.{ltb-true}
+use borrow.Author.Tests.{ltb-true, lt-ltb}
+use Rattle.std.proofs.lemmas.Bool.{and_from}
 use Rattle.c_tokens.specs.declared.token.Shape.{Shape}
 use Rattle.c_forms.specs.declared.pieces.Sort.{Sort}
 use Rattle.c_forms.specs.declared.pieces.Repetition.TheVariants.{Optional, Greedy, Due, All, Any, Many, Spliced, Ended}
@@ -19,7 +20,7 @@ use Rattle.c_syntax.specs.Reading.{Parts, parts_by, parts_of, Before, Usual, is_
 use Rattle.c_syntax.specs.Grammar.{body, whole, charged, after_first, after_part}
 use Rattle.c_syntax.specs.Spells.{Spelling, Parted, Matches, parts_spelled, Levels, may_be, IsNode, At, InPlace}
 use Rattle.c_syntax.proofs.Told.{levels, lower, In, some_level, Tells, Says, Calls, Inner, is_due, need, called_says, roomy}
-use Rattle.c_syntax.proofs.Parts.{fine_first, Holds, row_says}
+use Rattle.c_syntax.proofs.Parts.{fine_first, fine_first_more, Holds, row_says}
 
 -- ---- heights
 
@@ -86,6 +87,11 @@ abbrev pub ok : Bool → ℕ → Sort → ℕ → Bool
 ok true k due least = is_due due least
 ok false k due least = is_due due least && nat_lt (need due) (suc k)
 
+ok_more : (b : Bool) (m k : ℕ) → m ≤ k → (due : Sort) (least : ℕ) → ok b m due least ≡ true → ok b k due least ≡ true
+ok_more true m k le due least g = g
+ok_more false m k le due least g = let o = both (is_due due least) (nat_lt (need due) (suc m)) g in
+    and_from (is_due due least) (nat_lt (need due) (suc k)) o.0 (lt-ltb (need due) (suc k) (let z : need due < suc m = ltb-true (need due) (suc m) o.1 in omega arith))
+
 module _ (d : ℕ) (w : List Shape) (E : Calls d w) (inner : Parts) (IS : Inner d w inner) where
   parts_say : (b : Bool) (k : ℕ) (due : Sort) (least : ℕ) (i : Spot) (x : Found) (p : Input) → ok b k due least ≡ true → read body d (parts_by b inner due least) (from w i) ≡ Ok (x, p)
       → Says d w (λ n. parts_spelled b (lower n w) (In k n w) due least) i x p
@@ -94,15 +100,15 @@ module _ (d : ℕ) (w : List Shape) (E : Calls d w) (inner : Parts) (IS : Inner 
       IS k due least i x p o.0 (let z : need due < suc k = ltb-true (need due) (suc k) o.1 in omega arith) h
 
   -- the pieces that are left, after parts that were read
-  pub completed_says : (k : ℕ) (own : Sort) (f : Form) (i m : Spot) (done : Listed) (ps : List Piece) (x : Found) (p : Input) → fine_first (ok (is_starred f) k) own ps ≡ true → Holds f ps (raw_at w m.place)
+  pub completed_says : (l k : ℕ) (small : l ≤ k) (own : Sort) (f : Form) (i m : Spot) (done : Listed) (ps : List Piece) (x : Found) (p : Input) → fine_first (ok (is_starred f) l) own ps ≡ true → Holds f ps (raw_at w m.place)
       → (is_starred f ≡ true → 0 < d) → done.height ≤ d
       → ((n : ℕ) → done.height ≤ n → (ts : List Plain) (j : Spot) → Matches (parts_spelled (is_starred f) (lower n w) (In k n w)) w own f Usual ps ts m j
           → Matches (parts_spelled (is_starred f) (lower n w) (In k n w)) w own f Usual (pieces f) (done.trees ++ ts) i j)
       → read body d (completed (parts_of f inner) own f i.place done ps) (from w m) ≡ Ok (x, p) → Says d w (λ n t i j. IsForm w own f n k t i j) i x p
   unfolding completed
-  completed_says k own f i m done ps x p F o room high front h =
+  completed_says l k small own f i m done ps x p F o room high front h =
       let a = split (read body d (pieces_in (parts_of f inner) own f Usual ps) (from w m)) (λ g j. Ok (node f i.place j.at.place (joined done g), j)) x p h in
-      let S = row_says d w own f (parts_of f inner) (λ n. parts_spelled (is_starred f) (lower n w) (In k n w)) (ok (is_starred f) k) (parts_say (is_starred f) k) ps m a.value a.place F o a.first in
+      let S = row_says d w own f (parts_of f inner) (λ n. parts_spelled (is_starred f) (lower n w) (In k n w)) (ok (is_starred f) k) (parts_say (is_starred f) k) ps m a.value a.place (fine_first_more (ok (is_starred f) l) (ok (is_starred f) k) (ok_more (is_starred f) l k small) own ps F) o a.first in
       subst (λ (y : Found × Input). Says d w (λ n t i j. IsForm w own f n k t i j) i y.0 y.1) (same_pair (node f i.place a.place.at.place (joined done a.value)) x a.place p a.second) (record {
         place = S.place;
         placed = S.placed;
@@ -116,22 +122,22 @@ module _ (d : ℕ) (w : List Shape) (E : Calls d w) (inner : Parts) (IS : Inner 
       })
 
   -- a whole node
-  pub whole_says : (k : ℕ) (own : Sort) (f : Form) (i : Spot) (x : Found) (p : Input) → fine_first (ok (is_starred f) k) own (pieces f) ≡ true → Holds f (pieces f) (raw_at w i.place)
+  pub whole_says : (l k : ℕ) (small : l ≤ k) (own : Sort) (f : Form) (i : Spot) (x : Found) (p : Input) → fine_first (ok (is_starred f) l) own (pieces f) ≡ true → Holds f (pieces f) (raw_at w i.place)
       → read body d (whole inner own f) (from w i) ≡ Ok (x, p) → Says d w (λ n t i j. IsForm w own f n k t i j) i x p
   unfolding whole
-  whole_says k own f i x p F o h = by_star (is_starred f) refl h
+  whole_says l k small own f i x p F o h = by_star (is_starred f) refl h
     where
       by_star : (b : Bool) → is_starred f ≡ b → read body d (charged b (completed (parts_of f inner) own f i.place nothing (pieces f))) (from w i) ≡ Ok (x, p) → Says d w (λ n t i j. IsForm w own f n k t i j) i x p
       by_star true e h = let v = roomy d 0 (nat_lt 0 d) (read body d (completed (parts_of f inner) own f i.place nothing (pieces f)) (from w i)) i.place x p refl h in
-          completed_says k own f i i nothing (pieces f) x p F o (λ _. v.0) (omega arith) (λ n le ts j M. M) v.1
-      by_star false e h = completed_says k own f i i nothing (pieces f) x p F o (λ y. absurd (let z : true ≡ false = sym y ∙ e in cc z)) (omega arith) (λ n le ts j M. M) h
+          completed_says l k small own f i i nothing (pieces f) x p F o (λ _. v.0) (omega arith) (λ n le ts j M. M) v.1
+      by_star false e h = completed_says l k small own f i i nothing (pieces f) x p F o (λ y. absurd (let z : true ≡ false = sym y ∙ e in cc z)) (omega arith) (λ n le ts j M. M) h
 
   -- a first part, and the pieces after it
-  pub after_says : (k : ℕ) (own : Sort) (f : Form) (due : Sort) (least : ℕ) (i m : Spot) (y x : Found) (p : Input) → pieces f ≡ One due least ∷ after_first (pieces f) → fine_first (ok (is_starred f) k) own (after_first (pieces f)) ≡ true
+  pub after_says : (l k : ℕ) (small : l ≤ k) (own : Sort) (f : Form) (due : Sort) (least : ℕ) (i m : Spot) (y x : Found) (p : Input) → pieces f ≡ One due least ∷ after_first (pieces f) → fine_first (ok (is_starred f) l) own (after_first (pieces f)) ≡ true
       → none_due (after_first (pieces f)) ≡ true → Holds f (after_first (pieces f)) (raw_at w m.place) → (is_starred f ≡ true → 0 < d) → y.height ≤ d
       → ((n : ℕ) → y.height ≤ n → parts_spelled (is_starred f) (lower n w) (In k n w) (inside own due) least y.tree i m)
       → read body d (after_part inner own f i.place y) (from w m) ≡ Ok (x, p) → Says d w (λ n t i j. IsForm w own f n k t i j) i x p
-  after_says k own f due least i m y x p e F none o room high P h = completed_says k own f i m (one y) (after_first (pieces f)) x p F o room high
+  after_says l k small own f due least i m y x p e F none o room high P h = completed_says l k small own f i m (one y) (after_first (pieces f)) x p F o room high
       (λ n le ts j M. subst (λ q. Matches (parts_spelled (is_starred f) (lower n w) (In k n w)) w own f Usual q (y.tree ∷ ts) i j) (sym e)
           (record { first = y.tree; others = ts; place = m; value = refl; is_first = P n le;
             are_others = any_before (parts_spelled (is_starred f) (lower n w) (In k n w)) w own f Usual (before_by (is_absent y.tree)) (after_first (pieces f)) ts m j none M })) h

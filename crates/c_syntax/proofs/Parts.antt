@@ -1,5 +1,6 @@
 -- The pieces of a form that were read are those that are spelled.
 use Rattle.std.proofs.Common.{◌≡◌, inl, inr, refl, subst, ap, sym, ◌∙◌, ℕ, ◌+◌, ◌<◌, ◌≤◌, max, nat_eq, Bool, true, false, ◌&&◌, List, [], ◌∷◌, Option, Some, None, Ok, arith}
+use Rattle.std.proofs.lemmas.Bool.{and_from}
 use Rattle.c_tokens.specs.declared.class.Class.{Class}
 use Rattle.c_tokens.specs.declared.token.Shape.{Shape}
 use Rattle.c_tokens.specs.ClassNumbers.{class_number}
@@ -48,6 +49,21 @@ fine ok own _ = false
 abbrev pub fine_first : (Sort → ℕ → Bool) → Sort → List Piece → Bool
 fine_first ok own (Own ∷ ps) = fine ok own ps
 fine_first ok own ps = fine ok own ps
+
+fine_more : (ok more : Sort → ℕ → Bool) → ((due : Sort) (least : ℕ) → ok due least ≡ true → more due least ≡ true) → (own : Sort) (ps : List Piece) → fine ok own ps ≡ true → fine more own ps ≡ true
+fine_more ok more h own [] F = F
+fine_more ok more h own (Token c ∷ ps) F = fine_more ok more h own ps F
+fine_more ok more h own (Maybe c ∷ ps) F = fine_more ok more h own ps F
+fine_more ok more h own (One due least ∷ ps) F = let f = both (ok (inside own due) least) (fine ok own ps) F in and_from (more (inside own due) least) (fine more own ps) (h (inside own due) least f.0) (fine_more ok more h own ps f.1)
+fine_more ok more h own (Group r due least ∷ ps) F = let z = both (is_small r && parts_from r ps) (ok due least && fine ok own ps) F in let f = both (ok due least) (fine ok own ps) z.1 in
+    and_from (is_small r && parts_from r ps) (more due least && fine more own ps) z.0 (and_from (more due least) (fine more own ps) (h due least f.0) (fine_more ok more h own ps f.1))
+fine_more ok more h own (Then e ∷ ps) F = fine_more ok more h own ps F
+fine_more ok more h own (_ ∷ ps) F = absurd (cc F)
+
+pub fine_first_more : (ok more : Sort → ℕ → Bool) → ((due : Sort) (least : ℕ) → ok due least ≡ true → more due least ≡ true) → (own : Sort) (ps : List Piece) → fine_first ok own ps ≡ true → fine_first more own ps ≡ true
+fine_first_more ok more h own (Own ∷ ps) F = fine_more ok more h own ps F
+fine_first_more ok more h own [] F = F
+fine_first_more ok more h own (q ∷ ps) F = fine_more ok more h own (q ∷ ps) F
 
 -- the token that a form holds, where that is the first piece
 abbrev pub owned : Form → List Piece → Shape → Option Shape
