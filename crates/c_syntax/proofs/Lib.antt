@@ -4,3 +4,4 @@ mod Groups
 mod Parts
 mod Nodes
 mod Rows
+mod Climbs

@@ -29,7 +29,7 @@ abbrev pub first_sort : Sort → Sort
 first_sort s.Exp = s.Exp
 first_sort _ = s.InnerDeclarator
 
-abbrev begins_one : Sort → List Piece → Bool
+abbrev pub begins_one : Sort → List Piece → Bool
 begins_one s.Exp (One s.Exp least ∷ ps) = true
 begins_one s.Exp _ = false
 begins_one _ (One s.InnerDeclarator least ∷ ps) = true
