@@ -1,28 +1,30 @@
 -- What goes on after a first part keeps what was spelled.
-use Rattle.std.proofs.Common.{◌≡◌, refl, subst, ap, sym, ◌∙◌, ℕ, zero, suc, ◌+◌, ◌<◌, ◌≤◌, max, nat_lt, Bool, true, false, not, ◌&&◌, List, [], ◌∷◌, Option, Some, None, Ok, arith}
+use Rattle.std.proofs.Common.{◌≡◌, refl, subst, ap, sym, ◌∙◌, ℕ, zero, suc, ◌+◌, ◌<◌, ◌≤◌, max, nat_lt, nat_eq, Bool, true, false, not, ◌&&◌, List, [], ◌∷◌, Option, Some, None, Ok, arith}
 use borrow.Author.Tests.{ltb-false}
 use Rattle.c_tokens.specs.declared.token.Shape.{Shape}
+use Rattle.c_tokens.specs.declared.token.Punct.TheVariants as punct
+use Rattle.c_tokens.specs.declared.class.Class.TheVariants as class
+use Rattle.c_tokens.specs.ClassNumbers.{class_number}
 use Rattle.c_forms.specs.declared.pieces.Sort.{Sort}
 use Rattle.c_forms.specs.declared.pieces.Sort.TheVariants as s
-use Rattle.c_forms.specs.declared.pieces.Repetition.TheVariants.{Optional, Greedy, Due, All, Any, Many, Spliced, Ended}
 use Rattle.c_forms.specs.declared.pieces.Piece.{Piece}
-use Rattle.c_forms.specs.declared.pieces.Piece.TheVariants.{Token, Maybe, Own, TypeTokens, KindName, One, Group, Rest, Anything, Then}
+use Rattle.c_forms.specs.declared.pieces.Piece.TheVariants.{One}
 use Rattle.c_forms.specs.declared.forms.Form.{Form}
 use Rattle.c_forms.specs.Forests.{Plain}
 use Rattle.c_forms.specs.Measures.{level, pieces}
 use Rattle.c_reader.specs.States.{State}
-use Rattle.c_reader.specs.Tokens.{Spot, raw_at}
-use Rattle.c_reader.specs.Readers.{Input, Reader, Found, Turn, More, Last, Give, Loop, read, when, turn_while}
+use Rattle.c_reader.specs.Tokens.{Spot, step, raw_at, class_at}
+use Rattle.c_reader.specs.Readers.{Input, Reader, Found, Turn, More, Last, Of, Refuse, Give, Loop, read, below, and_then, pick, only, choose, here, when, turn_while}
 use Rattle.c_reader.proofs.Local.{from}
-use Rattle.c_reader.proofs.Loops.{Both, split, kept, same_pair}
+use Rattle.c_reader.proofs.Loops.{Both, split, kept, same_answer, same_place, same_pair}
 use Rattle.c_reader.proofs.Advance.{grew, stayed}
-use Rattle.c_reader.proofs.Sets.{both, not_true}
+use Rattle.c_reader.proofs.Sets.{both, not_true, same_class}
 use Rattle.c_syntax.specs.Allowed.{places}
 use Rattle.c_syntax.specs.Reading.{Parts, is_absent, inside, is_starred, one, completed, deeper, called, parts_by}
-use Rattle.c_syntax.specs.Grammar.{body, after_first, after_part, Standing, standing, left_level, continued_by, may_follow, is_tail, tail_by, turn, climb}
-use Rattle.c_syntax.specs.Spells.{Spelling, Matches, Parted, parts_spelled, may_be, IsNode, At, wrapped_sort}
-use Rattle.c_syntax.proofs.Told.{levels, lower, In, Tells, Says, Calls, Inner, is_due, need, lowered, spelled_in, roomy, told_both, told_so}
-use Rattle.c_syntax.proofs.Parts.{fine_first, owned, Holds}
+use Rattle.c_syntax.specs.Grammar.{body, sign, parenthesized, tight, after_first, after_part, Standing, standing, left_level, continued_by, may_follow, is_tail, tail_by, turn, climb}
+use Rattle.c_syntax.specs.Spells.{Spelling, Matches, Parted, parts_spelled, may_be, IsNode, At, Is, Wraps, BeginsWrapped, wrapped_sort}
+use Rattle.c_syntax.proofs.Told.{levels, lower, In, Tells, Says, Calls, Inner, is_due, need, some_level, lowered, spelled_in, roomy, told_both, told_so}
+use Rattle.c_syntax.proofs.Parts.{fine_first, Holds, picked}
 use Rattle.c_syntax.proofs.Nodes.{IsForm, node_of, as_node, none_due, ok, after_says, at_in}
 use Rattle.c_syntax.proofs.Rows.{first_sort, tail_right, owned_after, Tails, begins_one}
 
@@ -47,6 +49,8 @@ pub record Leveled (due : Sort) : Type 1 where
   pub go : (st : State) (t : Plain) (f : Form) → may_follow due st t f ≡ true → MayGo due t
   pub wrapped : (w : List Shape) (l : ℕ) (f : Form) (n k : ℕ) (t : Plain) (i j : Spot) → MayGo due t → may_be due f ≡ true → l ≤ level f → IsForm w due f n k t i j → At (levels n) (lower n w) (In k n w) w (wrapped_sort due) l t i j
   pub node : (levels : Type 0) (deeper inner : Spelling) (w : List Shape) (l : ℕ) (t : Plain) (i j : Spot) → IsNode levels deeper inner w due l t i j → At levels deeper inner w due l t i j
+  pub wraps : (levels : Type 0) (deeper inner : Spelling) (w : List Shape) (l : ℕ) (t : Plain) (i j : Spot) → Wraps levels deeper w due t i j → At levels deeper inner w due l t i j
+  pub wrapped_wraps : (levels : Type 0) (deeper inner : Spelling) (w : List Shape) (l : ℕ) (t : Plain) (i j : Spot) → MayGo due t → Wraps levels deeper w due t i j → At levels deeper inner w (wrapped_sort due) l t i j
 
 all_alike : (b : Bool) (inner : Parts) → b ≡ true → parts_by b called ≡ parts_by b inner
 all_alike true inner e = refl
@@ -60,7 +64,66 @@ lower_part : (b : Bool) (n k : ℕ) (w : List Shape) (a c : Sort) (least : ℕ) 
 lower_part true n k w a c least t i j e same P = subst (λ a. lower n w a least t i j) (sym same) P
 lower_part false n k w a c least t i j e same P = absurd (cc e)
 
+-- an operand in parentheses, after the first of them
+pub record Paren (d : ℕ) (w : List Shape) (due : Sort) (m : Spot) (x : Found) (p : Input) : Type 0 where
+  pub last : Spot
+  pub placed : p ≡ from w (step last)
+  pub high : x.height ≤ d
+  pub some : 0 < x.height
+  pub closes : Is w (class.Punct punct.RightParen) last
+  pub spelled : (n : ℕ) → x.height ≤ n → lower n w due 1 x.tree m last
+
+-- a form that is as tight as it must be
+pub record Tight (d least : ℕ) (f : Form) (r : Reader Found) (q : Input) (y : Standing) (p : Input) : Type 0 where
+  pub found : Found
+  pub value : y ≡ record { found = found; level = level f }
+  pub tight : least ≤ level f
+  pub reads : read body d r q ≡ Ok (found, p)
+
+pub tight_read : (d least : ℕ) (f : Form) (r : Reader Found) (q : Input) (y : Standing) (p : Input) → read body d (tight least f r) q ≡ Ok (y, p) → Tight d least f r q y p
+tight_read d least f r q y p h = by_test (nat_lt (level f) least) refl h
+  where
+    by_test : (b : Bool) → nat_lt (level f) least ≡ b → read body d (choose b Refuse (standing (level f) r)) q ≡ Ok (y, p) → Tight d least f r q y p
+    by_test true e h = absurd (cc h)
+    by_test false e h =
+        let a = split (read body d r q) (λ x j. Ok (record { found = x; level = level f }, j)) y p h in
+        record {
+          found = a.value;
+          value = sym (same_answer (record { found = a.value; level = level f }) y a.place p a.second);
+          tight = ltb-false (level f) least e;
+          reads = a.first ∙ ap (λ j. Ok (a.value, j)) (same_place (record { found = a.value; level = level f }) y a.place p a.second);
+        }
+
 module _ (d : ℕ) (w : List Shape) (E : Calls d w) (inner : Parts) (IS : Inner d w inner) (due : Sort) (L : Leveled due) (k : ℕ) (least : ℕ) where
+  pub paren_says : (due : Sort) (m : Spot) (x : Found) (p : Input) → is_due due 1 ≡ true → read body d (parenthesized due) (from w m) ≡ Ok (x, p) → Paren d w due m x p
+  paren_says due m x p g h =
+      let a = split (below body d (Of due 1) (from w m)) (λ x k. and_then (pick (only (nat_eq (here k).class (class_number (sign punct.RightParen)))) k) (λ _ j. Ok (deeper x, j))) x p h in
+      let C = E due 1 m a.value a.place g a.first in
+      let b = split (pick (only (nat_eq (class_at w C.place) (class_number (sign punct.RightParen)))) (from w C.place)) (λ _ j. Ok (deeper a.value, j)) x p
+      (subst (λ k. and_then (pick (only (nat_eq (here k).class (class_number (sign punct.RightParen)))) k) (λ _ j. Ok (deeper a.value, j)) ≡ Ok (x, p)) C.placed a.second) in
+      let T = picked (nat_eq (class_at w C.place) (class_number (sign punct.RightParen))) b.value (from w C.place) b.place b.first in
+      subst (λ (y : Found × Input). Paren d w due m y.0 y.1) (same_pair (deeper a.value) x b.place p b.second) (record {
+        last = C.place;
+        placed = T.1;
+        high = omega (arith, C.high);
+        some = omega arith;
+        closes = same_class (class_at w C.place) (class_number (sign punct.RightParen)) T.0;
+        spelled = λ n le. lowered w due 1 a.value.tree m C.place a.value.height n C.spelled le;
+      })
+
+  -- a tree in parentheses stands
+  pub paren_stands : (i : Spot) (x : Found) (p : Input) → Is w (class.Punct punct.LeftParen) i → BeginsWrapped due w (step i) → is_absent x.tree ≡ false → Paren d w (wrapped_sort due) (step i) x p
+      → Stands d w due k least i (record { found = x; level = 17 }) p
+  paren_stands i x p opens begins there P = record {
+    place = step P.last;
+    placed = P.placed;
+    high = P.high;
+    spelled = λ n le l under.
+        let W : Wraps (levels n) (lower n w) w due x.tree i (step P.last) = record { last = P.last; left = some_level n (omega (arith, P.some)); opens = opens; begins = begins; within = P.spelled n le; is_there = there; closes = P.closes; ends = refl } in
+        (at_in k n w due l x.tree i (step P.last) (L.wraps (levels n) (lower n w) (In k n w) w l x.tree i (step P.last) W),
+          λ go. at_in 8 n w (wrapped_sort due) l x.tree i (step P.last) (L.wrapped_wraps (levels n) (lower n w) (In 8 n w) w l x.tree i (step P.last) go W));
+  }
+
   -- a node stands
   pub node_stands : (f : Form) (i : Spot) (x : Found) (p : Input) → may_be due f ≡ true → least ≤ level f → Says d w (λ n t i j. IsForm w due f n k t i j) i x p → Says d w (λ n t i j. IsForm w due f n 8 t i j) i x p
       → Stands d w due k least i (record { found = x; level = level f }) p

@@ -5,3 +5,6 @@ mod Parts
 mod Nodes
 mod Rows
 mod Climbs
+mod Expressions
+mod Declarators
+mod Heads

@@ -87,7 +87,7 @@ pub member_tails : Tails s.MemberName
 member_tails (shape.Punct p) = member_puncts p
 member_tails _ = (refl, refl)
 
-exp_first : (ps : List Piece) → begins_one s.Exp ps ≡ true → ps ≡ One s.Exp (left_level ps) ∷ after_first ps
+pub exp_first : (ps : List Piece) → begins_one s.Exp ps ≡ true → ps ≡ One s.Exp (left_level ps) ∷ after_first ps
 exp_first (One s.Exp least ∷ ps) e = refl
 exp_first _ e = absurd (cc e)
 

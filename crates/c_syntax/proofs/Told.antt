@@ -2,17 +2,19 @@
 use Rattle.std.proofs.Common.{◌≡◌, refl, subst, ap, sym, ◌∙◌, ℕ, zero, suc, ◌+◌, ◌<◌, ◌≤◌, nat_lt, Bool, true, false, List, Ok, arith}
 use borrow.Author.Tests.{ltb-true}
 use Rattle.c_tokens.specs.declared.token.Shape.{Shape}
+use Rattle.c_tokens.specs.declared.token.Punct.TheVariants as punct
+use Rattle.c_tokens.specs.declared.class.Class.TheVariants as class
 use Rattle.c_forms.specs.declared.pieces.Sort.{Sort}
 use Rattle.c_forms.specs.declared.pieces.Sort.TheVariants as s
 use Rattle.c_forms.specs.Forests.{Plain}
 use Rattle.c_reader.specs.Tokens.{Spot, step}
-use Rattle.c_reader.specs.Readers.{Input, Outcome, Reader, Found, Of, Call, Give, Bind, read, below, and_then, when}
+use Rattle.c_reader.specs.Readers.{Input, Outcome, Reader, Found, Of, Opened, Call, Give, Bind, read, below, and_then, when}
 use Rattle.c_reader.proofs.Local.{from}
 use Rattle.c_reader.proofs.Loops.{Split, split, same_answer, same_place, same_pair}
 use Rattle.c_syntax.specs.Allowed.{places}
 use Rattle.c_syntax.specs.Reading.{Parts, deeper, called}
 use Rattle.c_syntax.specs.Grammar.{body}
-use Rattle.c_syntax.specs.Spells.{Spelling, nothing_spelled, InPlace, Spells}
+use Rattle.c_syntax.specs.Spells.{Spelling, nothing_spelled, Is, BeginsWrapped, InPlace, Spells}
 
 abbrev pub levels : ℕ → Type 0
 levels zero = ⊥
@@ -135,3 +137,8 @@ need _ = 1
 -- What is read where it stands is spelled.
 abbrev pub Inner : ℕ → List Shape → Parts → Type 0
 Inner d w inner = (k : ℕ) (due : Sort) (least : ℕ) (i : Spot) (x : Found) (p : Input) → is_due due least ≡ true → need due ≤ k → read body d (inner due least) (from w i) ≡ Ok (x, p) → Says d w (λ n. In k n w due least) i x p
+
+-- What is called after an opening parenthesis, after which no type name begins, is an operand of `sizeof` that begins with it.
+abbrev pub CallsOpened : ℕ → List Shape → Type 0
+CallsOpened d w = (i : Spot) (x : Found) (p : Input) → Is w (class.Punct punct.LeftParen) i → BeginsWrapped s.Exp w (step i) → below body d Opened (from w (step i)) ≡ Ok (x, p)
+    → Called d w (λ n j. Spells n w s.Exp 15 x.tree i j) x.height p
