@@ -32,7 +32,7 @@ use Rattle.c_syntax.proofs.Nodes.{IsForm, node_of, ok, completed_says, whole_say
 use Rattle.c_syntax.proofs.Rows.{exp_tails, exp_first, exp_begun, begun_right, owned_by}
 use Rattle.c_syntax.proofs.Climbs.{Stood, Stands, Leveled, Paren, Tight, tight_read, paren_says, paren_stands, node_stands, climb_says}
 
-exp_leveled : Leveled s.Exp
+pub exp_leveled : Leveled s.Exp
 exp_leveled = record {
   tails = exp_tails;
   first = exp_first;
@@ -133,8 +133,8 @@ module _ (d : ℕ) (w : List Shape) (E : Calls d w) (EO : CallsOpened d w) (inne
   sized_says i y p own h = let v = roomy d 0 (nat_lt 0 d) _ i.place y p refl h in by_paren i (is_sign punct.LeftParen (seen_at w (step i))) y p own v.0 refl v.1
 
   begun_says : (i : Spot) (o : Option Form) (y : Standing) (p : Input) → begun_right s.Exp 1 o ≡ true → owned_by o (raw_at w i.place) ≡ Some (raw_at w i.place) → read body d (begun_by inner least o) (from w i) ≡ Ok (y, p) → Stands d w s.Exp k least i y p
-  begun_says i (Some f) y p R o h = let r = both (may_be s.Exp f) _ R in
-      rest_stands f i i y p (whole inner s.Exp f) r.0 (λ t x p le h. whole_says d w E inner IS 1 t le s.Exp f i x p r.1 o h) h
+  begun_says i (Some f) y p R o h = let r = both (may_be s.Exp f) _ R in let e = both (nat_lt 0 (level f)) _ r.1 in
+      rest_stands f i i y p (whole inner s.Exp f) r.0 (λ t x p le h. whole_says d w E inner IS 1 t le s.Exp f i x p e.1 o h) h
   begun_says i None y p R o h = absurd (cc h)
 
   by_start : (i : Spot) (b : Bool) (y : Standing) (p : Input) → read body d (choose b (begun_by inner least (begun s.Exp (raw_at w i.place))) Refuse) (from w i) ≡ Ok (y, p) → Stands d w s.Exp k least i y p

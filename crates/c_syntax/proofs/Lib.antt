@@ -8,3 +8,6 @@ mod Climbs
 mod Expressions
 mod Declarators
 mod Heads
+mod Words
+mod Params
+mod Statements

@@ -3,6 +3,7 @@ use Rattle.std.proofs.Common.{◌≡◌, ◌⊎◌, inl, inr, refl, subst, ap, s
 use borrow.Author.Tests.{ltb-true, lt-ltb}
 use Rattle.std.proofs.lemmas.Bool.{and_from}
 use Rattle.c_tokens.specs.declared.token.Shape.{Shape}
+use Rattle.c_tokens.specs.declared.span.Span.{Span}
 use Rattle.c_forms.specs.declared.pieces.Sort.{Sort}
 use Rattle.c_forms.specs.declared.pieces.Repetition.TheVariants.{Optional, Greedy, Due, All, Any, Many, Spliced, Ended}
 use Rattle.c_forms.specs.declared.pieces.Piece.{Piece}
@@ -73,6 +74,10 @@ pub record IsForm (w : List Shape) (own : Sort) (f : Form) (n k : ℕ) (t : Plai
   pub left : Levels (is_starred f) (levels n)
   pub matches : Matches (parts_spelled (is_starred f) (lower n w) (In k n w)) w own f Usual (pieces f) parts i j
 
+-- its first parts
+abbrev pub Begun : Form → List Plain → Plain → Type 0
+Begun f first t = (ts : List Plain) × ((span : Span) × (t ≡ forests.node f span (first ++ ts)))
+
 pub as_node : (w : List Shape) (own due : Sort) (least : ℕ) (f : Form) (n k : ℕ) (t : Plain) (i j : Spot)
     → ((ts : List Plain) → Matches (parts_spelled (is_starred f) (lower n w) (In k n w)) w own f Usual (pieces f) ts i j → Matches (parts_spelled (is_starred f) (lower n w) (In k n w)) w due f Usual (pieces f) ts i j)
     → may_be due f ≡ true → least ≤ level f → IsForm w own f n k t i j → IsNode (levels n) (lower n w) (In k n w) w due least t i j
@@ -87,39 +92,50 @@ abbrev pub ok : Bool → ℕ → Sort → ℕ → Bool
 ok true k due least = is_due due least
 ok false k due least = is_due due least && nat_lt (need due) (suc k)
 
+pub ok_at : (k : ℕ) (due : Sort) (least : ℕ) → is_due due least ≡ true → need due ≤ k → ok false k due least ≡ true
+ok_at k due least g le = and_from (is_due due least) (nat_lt (need due) (suc k)) g (lt-ltb (need due) (suc k) (omega arith))
+
 ok_more : (b : Bool) (m k : ℕ) → m ≤ k → (due : Sort) (least : ℕ) → ok b m due least ≡ true → ok b k due least ≡ true
 ok_more true m k le due least g = g
 ok_more false m k le due least g = let o = both (is_due due least) (nat_lt (need due) (suc m)) g in
     and_from (is_due due least) (nat_lt (need due) (suc k)) o.0 (lt-ltb (need due) (suc k) (let z : need due < suc m = ltb-true (need due) (suc m) o.1 in omega arith))
 
 module _ (d : ℕ) (w : List Shape) (E : Calls d w) (inner : Parts) (IS : Inner d w inner) where
-  parts_say : (b : Bool) (k : ℕ) (due : Sort) (least : ℕ) (i : Spot) (x : Found) (p : Input) → ok b k due least ≡ true → read body d (parts_by b inner due least) (from w i) ≡ Ok (x, p)
+  pub parts_say : (b : Bool) (k : ℕ) (due : Sort) (least : ℕ) (i : Spot) (x : Found) (p : Input) → ok b k due least ≡ true → read body d (parts_by b inner due least) (from w i) ≡ Ok (x, p)
       → Says d w (λ n. parts_spelled b (lower n w) (In k n w) due least) i x p
   parts_say true k due least i x p g h = called_says d w E due least i x p g h
   parts_say false k due least i x p g h = let o = both (is_due due least) (nat_lt (need due) (suc k)) g in
       IS k due least i x p o.0 (let z : need due < suc k = ltb-true (need due) (suc k) o.1 in omega arith) h
 
   -- the pieces that are left, after parts that were read
+  pub completed_tells : (l k : ℕ) (small : l ≤ k) (own : Sort) (f : Form) (i m : Spot) (done : Listed) (ps : List Piece) (x : Found) (p : Input) → fine_first (ok (is_starred f) l) own ps ≡ true → Holds f ps (raw_at w m.place)
+      → (is_starred f ≡ true → 0 < d) → done.height ≤ d
+      → ((n : ℕ) → done.height ≤ n → (ts : List Plain) (j : Spot) → Matches (parts_spelled (is_starred f) (lower n w) (In k n w)) w own f Usual ps ts m j
+          → Matches (parts_spelled (is_starred f) (lower n w) (In k n w)) w own f Usual (pieces f) (done.trees ++ ts) i j)
+      → read body d (completed (parts_of f inner) own f i.place done ps) (from w m) ≡ Ok (x, p) → Says d w (λ n t i j. IsForm w own f n k t i j × Begun f done.trees t) i x p
+  unfolding completed
+  completed_tells l k small own f i m done ps x p F o room high front h =
+      let a = split (read body d (pieces_in (parts_of f inner) own f Usual ps) (from w m)) (λ g j. Ok (node f i.place j.at.place (joined done g), j)) x p h in
+      let S = row_says d w own f (parts_of f inner) (λ n. parts_spelled (is_starred f) (lower n w) (In k n w)) (ok (is_starred f) k) (parts_say (is_starred f) k) ps m a.value a.place (fine_first_more (ok (is_starred f) l) (ok (is_starred f) k) (ok_more (is_starred f) l k small) own ps F) o a.first in
+      subst (λ (y : Found × Input). Says d w (λ n t i j. IsForm w own f n k t i j × Begun f done.trees t) i y.0 y.1) (same_pair (node f i.place a.place.at.place (joined done a.value)) x a.place p a.second) (record {
+        place = S.place;
+        placed = S.placed;
+        high = height_within (is_starred f) (max done.height a.value.height) d room (omega (arith, S.high));
+        spelled = λ n le. (record {
+          parts = done.trees ++ a.value.trees;
+          value = ap (λ q. forests.node f (spanned i.place q.at.place) (done.trees ++ a.value.trees)) S.placed;
+          left = level_left (is_starred f) (max done.height a.value.height) n le;
+          matches = front n (omega (arith, height_up (is_starred f) (max done.height a.value.height))) a.value.trees S.place (S.spelled n (omega (arith, height_up (is_starred f) (max done.height a.value.height))));
+        }, (a.value.trees, (spanned i.place a.place.at.place, refl)));
+      })
+
   pub completed_says : (l k : ℕ) (small : l ≤ k) (own : Sort) (f : Form) (i m : Spot) (done : Listed) (ps : List Piece) (x : Found) (p : Input) → fine_first (ok (is_starred f) l) own ps ≡ true → Holds f ps (raw_at w m.place)
       → (is_starred f ≡ true → 0 < d) → done.height ≤ d
       → ((n : ℕ) → done.height ≤ n → (ts : List Plain) (j : Spot) → Matches (parts_spelled (is_starred f) (lower n w) (In k n w)) w own f Usual ps ts m j
           → Matches (parts_spelled (is_starred f) (lower n w) (In k n w)) w own f Usual (pieces f) (done.trees ++ ts) i j)
       → read body d (completed (parts_of f inner) own f i.place done ps) (from w m) ≡ Ok (x, p) → Says d w (λ n t i j. IsForm w own f n k t i j) i x p
-  unfolding completed
-  completed_says l k small own f i m done ps x p F o room high front h =
-      let a = split (read body d (pieces_in (parts_of f inner) own f Usual ps) (from w m)) (λ g j. Ok (node f i.place j.at.place (joined done g), j)) x p h in
-      let S = row_says d w own f (parts_of f inner) (λ n. parts_spelled (is_starred f) (lower n w) (In k n w)) (ok (is_starred f) k) (parts_say (is_starred f) k) ps m a.value a.place (fine_first_more (ok (is_starred f) l) (ok (is_starred f) k) (ok_more (is_starred f) l k small) own ps F) o a.first in
-      subst (λ (y : Found × Input). Says d w (λ n t i j. IsForm w own f n k t i j) i y.0 y.1) (same_pair (node f i.place a.place.at.place (joined done a.value)) x a.place p a.second) (record {
-        place = S.place;
-        placed = S.placed;
-        high = height_within (is_starred f) (max done.height a.value.height) d room (omega (arith, S.high));
-        spelled = λ n le. record {
-          parts = done.trees ++ a.value.trees;
-          value = ap (λ q. forests.node f (spanned i.place q.at.place) (done.trees ++ a.value.trees)) S.placed;
-          left = level_left (is_starred f) (max done.height a.value.height) n le;
-          matches = front n (omega (arith, height_up (is_starred f) (max done.height a.value.height))) a.value.trees S.place (S.spelled n (omega (arith, height_up (is_starred f) (max done.height a.value.height))));
-        };
-      })
+  completed_says l k small own f i m done ps x p F o room high front h = let S = completed_tells l k small own f i m done ps x p F o room high front h in
+      record { place = S.place; placed = S.placed; high = S.high; spelled = λ n le. (S.spelled n le).0 }
 
   -- a whole node
   pub whole_says : (l k : ℕ) (small : l ≤ k) (own : Sort) (f : Form) (i : Spot) (x : Found) (p : Input) → fine_first (ok (is_starred f) l) own (pieces f) ≡ true → Holds f (pieces f) (raw_at w i.place)
@@ -131,6 +147,11 @@ module _ (d : ℕ) (w : List Shape) (E : Calls d w) (inner : Parts) (IS : Inner 
       by_star true e h = let v = roomy d 0 (nat_lt 0 d) (read body d (completed (parts_of f inner) own f i.place nothing (pieces f)) (from w i)) i.place x p refl h in
           completed_says l k small own f i i nothing (pieces f) x p F o (λ _. v.0) (omega arith) (λ n le ts j M. M) v.1
       by_star false e h = completed_says l k small own f i i nothing (pieces f) x p F o (λ y. absurd (let z : true ≡ false = sym y ∙ e in cc z)) (omega arith) (λ n le ts j M. M) h
+
+  pub node_says : (l k : ℕ) (small : l ≤ k) (due : Sort) (least : ℕ) (f : Form) (i : Spot) (x : Found) (p : Input) → may_be due f ≡ true → least ≤ level f → fine_first (ok (is_starred f) l) due (pieces f) ≡ true → Holds f (pieces f) (raw_at w i.place)
+      → read body d (whole inner due f) (from w i) ≡ Ok (x, p) → Says d w (λ n t i j. IsNode (levels n) (lower n w) (In k n w) w due least t i j) i x p
+  node_says l k small due least f i x p may tight F o h = let S = whole_says l k small due f i x p F o h in
+      record { place = S.place; placed = S.placed; high = S.high; spelled = λ n le. node_of w due least f n k x.tree i S.place may tight (S.spelled n le) }
 
   -- a first part, and the pieces after it
   pub after_says : (l k : ℕ) (small : l ≤ k) (own : Sort) (f : Form) (due : Sort) (least : ℕ) (i m : Spot) (y x : Found) (p : Input) → pieces f ≡ One due least ∷ after_first (pieces f) → fine_first (ok (is_starred f) l) own (after_first (pieces f)) ≡ true

@@ -1,5 +1,5 @@
 -- Facts of the table: the forms that tokens begin and go on with.
-use Rattle.std.proofs.Common.{◌≡◌, refl, subst, ap, sym, ◌∙◌, ℕ, Bool, true, false, not, ◌&&◌, ◌||◌, List, [], ◌∷◌, Option, Some, None}
+use Rattle.std.proofs.Common.{◌≡◌, refl, subst, ap, sym, ◌∙◌, ℕ, nat_lt, Bool, true, false, not, ◌&&◌, ◌||◌, List, [], ◌∷◌, Option, Some, None}
 use Rattle.c_tokens.specs.declared.token.Key.{Key}
 use Rattle.c_tokens.specs.declared.token.Key.TheVariants as key
 use Rattle.c_tokens.specs.declared.token.Punct.{Punct}
@@ -93,8 +93,13 @@ exp_first _ e = absurd (cc e)
 
 -- ---- what tokens begin
 
+-- all levels of a sort but those of expressions are above this
+abbrev pub lowest : Sort → ℕ
+lowest s.Exp = 0
+lowest _ = 16
+
 abbrev pub begun_right : Sort → ℕ → Option Form → Bool
-begun_right due k (Some f) = may_be due f && fine_first (ok (is_starred f) k) due (pieces f)
+begun_right due k (Some f) = may_be due f && (nat_lt (lowest due) (level f) && fine_first (ok (is_starred f) k) due (pieces f))
 begun_right due k None = true
 
 abbrev pub owned_by : Option Form → Shape → Option Shape

@@ -61,13 +61,13 @@ pub record Called (d : ℕ) (w : List Shape) (T : ℕ → Spot → Type 0) (heig
   pub high : height < d
   pub spelled : (n : ℕ) → height ≤ n → T n place
 
--- no declarator binds tighter than a function's
+-- no tree binds tighter than a token, and no declarator than a function's
 abbrev pub is_due : Sort → ℕ → Bool
 is_due s.Declarator least = nat_lt least 3
 is_due s.AbstractDeclarator least = nat_lt least 3
 is_due s.ParamDeclarator least = nat_lt least 3
 is_due s.MemberName least = nat_lt least 3
-is_due _ least = true
+is_due _ least = nat_lt least 18
 
 -- What is called is spelled.
 abbrev pub Calls : ℕ → List Shape → Type 0
