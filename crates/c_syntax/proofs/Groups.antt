@@ -220,7 +220,7 @@ module _ (d : ℕ) (w : List Shape) (T : ℕ → Plain → Spot → Spot → Typ
   due_read due before i true g p e h = once Due due before i g p (λ n ts j. inr) h
   due_read due before i false g p e h = at_most Due due before i (has (starts due) (class_at w i)) g p refl (λ n ts j. inr) (λ _ n. inl (e, (refl, refl))) h
 
-  plain_end : (due : Sort) (j : Spot) → has (starts due ++ []) (class_at w j) ≡ false → NoneBegins w (starts due) j
+  pub plain_end : (due : Sort) (j : Spot) → has (starts due ++ []) (class_at w j) ≡ false → NoneBegins w (starts due) j
   plain_end due j e = (has_neither (starts due) [] (class_at w j) e).0
 
   any_read : (due : Sort) (before : Before) (i : Spot) (b : Bool) (g : Gathered) (p : Input) → has (element_starts Any due) (class_at w i) ≡ b → read body d (choose b (many Any due r i.place) (Give (none_at i.place))) (from w i) ≡ Ok (g, p) → Group Any due before i g p

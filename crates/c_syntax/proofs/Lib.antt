@@ -11,3 +11,4 @@ mod Heads
 mod Words
 mod Params
 mod Statements
+mod BlockItems
