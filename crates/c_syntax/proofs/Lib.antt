@@ -12,3 +12,4 @@ mod Words
 mod Params
 mod Statements
 mod BlockItems
+mod External

@@ -81,11 +81,11 @@ none_alike : (ts : List Plain) → has_none ts ≡ is_none (forest ts)
 none_alike [] = refl
 none_alike (t ∷ ts) = refl
 
-abbrev is_ended_by : Repetition → Bool
+abbrev pub is_ended_by : Repetition → Bool
 is_ended_by (Ended c e) = true
 is_ended_by _ = false
 
-ends_there : (w : List Shape) (k : Repetition) (place : Spot) (b : Bool) (p : Input) → is_ended_by k ≡ false → Ends w k place b p → p ≡ from w place
+pub ends_there : (w : List Shape) (k : Repetition) (place : Spot) (b : Bool) (p : Input) → is_ended_by k ≡ false → Ends w k place b p → p ≡ from w place
 ends_there w k place false p e h = h
 ends_there w (Ended c x) place true p e h = absurd (cc e)
 ends_there w _ place true p e h = absurd h
