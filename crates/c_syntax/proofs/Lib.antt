@@ -13,3 +13,5 @@ mod Params
 mod Statements
 mod BlockItems
 mod External
+mod Sorts
+pub mod Sound
