@@ -1,36 +1,32 @@
 -- A declaration or a statement of a block that was read is spelled.
-use Rattle.std.proofs.Common.{◌≡◌, ◌⊎◌, inl, inr, refl, subst, ap, sym, ◌∙◌, ℕ, zero, suc, ◌+◌, ◌<◌, ◌≤◌, max, nat_lt, nat_eq, Bool, true, false, not, ◌&&◌, ◌||◌, List, [], ◌∷◌, Option, Some, None, Ok, arith}
+use Rattle.std.proofs.Common.{◌≡◌, inl, inr, refl, subst, ap, sym, ◌∙◌, ℕ, zero, suc, ◌+◌, ◌≤◌, Bool, true, false, not, ◌&&◌, List, [], Some, None, Ok, arith}
 use Rattle.std.proofs.lemmas.Bool.{or_right}
 use Rattle.c_tokens.specs.declared.token.Word.{Word}
 use Rattle.c_tokens.specs.declared.token.Punct.TheVariants as punct
 use Rattle.c_tokens.specs.declared.token.Shape.{Shape}
 use Rattle.c_tokens.specs.declared.token.Shape.TheVariants as shape
 use Rattle.c_forms.specs.declared.pieces.Event.TheVariants as event
-use Rattle.c_forms.specs.declared.pieces.Sort.{Sort}
 use Rattle.c_forms.specs.declared.pieces.Sort.TheVariants as s
 use Rattle.c_forms.specs.declared.pieces.Repetition.TheVariants.{All}
-use Rattle.c_forms.specs.declared.forms.Form.{Form}
 use Rattle.c_forms.specs.declared.forms.Form.TheVariants as form
-use Rattle.c_forms.specs.declared.forms.SpecForm.TheVariants as spec
 use Rattle.c_forms.specs.Forests.{Plain}
 use Rattle.c_forms.specs.Forests as forests
 use Rattle.c_forms.specs.Measures.{pieces}
 use Rattle.c_forms.specs.Sets.{has, starts, type_word}
-use Rattle.c_reader.specs.States.{State, class, happens}
+use Rattle.c_reader.specs.States.{class, happens}
 use Rattle.c_reader.specs.Tokens.{Spot, step, turned, raw_at, seen_at, class_at}
 use Rattle.c_reader.specs.Readers.{Input, Reader, Found, read, here, change, choose, ◌>>=◌}
 use Rattle.c_reader.proofs.Local.{from}
 use Rattle.c_reader.proofs.Loops.{split, same_pair}
 use Rattle.c_reader.proofs.Sets.{both, not_true, same_class, single}
 use Rattle.c_reader.proofs.Seen.{seen_type, is_a_type}
-use Rattle.c_syntax.specs.Allowed.{may_stand}
-use Rattle.c_syntax.specs.Reading.{Parts, Usual, Gathered, none_at, with_last, others, list_from, the_list, spanned, one}
-use Rattle.c_syntax.specs.Grammar.{body, is_sign, is_value, is_word, is_type_word, begins, whole, after_first, after_part, label, id_leaf, statement, late, typedef_leaf, type_led, type_first, declaration_at, block_item}
-use Rattle.c_syntax.specs.Spells.{IsNode, IsGroup, Matches}
-use Rattle.c_syntax.proofs.Told.{levels, lower, In, Tells, Says, Calls, CallsOpened, Inner}
+use Rattle.c_syntax.specs.Reading.{Parts, none_at, with_last, others, list_from, the_list, spanned, one}
+use Rattle.c_syntax.specs.Grammar.{body, is_sign, is_value, is_type_word, begins, whole, after_first, after_part, label, id_leaf, statement, late, typedef_leaf, type_led, type_first, declaration_at, block_item}
+use Rattle.c_syntax.specs.Spells.{IsNode}
+use Rattle.c_syntax.proofs.Told.{levels, lower, In, Says, Calls, CallsOpened, Inner}
 use Rattle.c_syntax.proofs.Groups.{Chained, others_read, plain_end}
-use Rattle.c_syntax.proofs.Nodes.{IsForm, node_of, completed_says, node_says, at_in}
-use Rattle.c_syntax.proofs.Statements.{is_a_word, label_says, statement_says}
+use Rattle.c_syntax.proofs.Nodes.{node_of, completed_says, node_says, at_in}
+use Rattle.c_syntax.proofs.Statements.{label_says, statement_says}
 
 -- the type that stands first
 leaf_spelled : (w : List Shape) (i : Spot) (word : Word) (n m : ℕ) → raw_at w i.place ≡ shape.Word word → class_at w i ≡ type_word
@@ -50,16 +46,32 @@ module _ (d : ℕ) (w : List Shape) (E : Calls d w) (EO : CallsOpened d w) (inne
       (λ g j. read body d (after_part inner s.Decl form.Decl i.place (list_from i.place g)) j) x p
       (subst (λ y. read body d (others All s.Spec (inner s.Spec 0) (with_last (none_at i.place) (typedef_leaf i.place y) (i.place + 1)) >>= λ g. after_part inner s.Decl form.Decl i.place (list_from i.place g)) (from w (turned (happens event.SoleType) (step i))) ≡ Ok (x, p)) W.1 h) in
       let C : Chained d w (λ n. In (suc m) n w s.Spec 0) (inner s.Spec 0) (λ i x p h. IS (suc m) s.Spec 0 i x p refl (omega arith) h) None i (with_last (none_at i.place) (typedef_leaf i.place (shape.Word W.0)) (i.place + 1)) (from w (turned (happens event.SoleType) (step i))) =
-      record { place = turned (happens event.SoleType) (step i); placed = refl; last = refl; open_end = refl; high = omega arith;
-        spelled = λ n le. (zero, ((typedef_leaf i.place (shape.Word W.0)).tree, (refl, leaf_spelled w i W.0 n m W.1 c))) } in
+      record {
+        place = turned (happens event.SoleType) (step i);
+        placed = refl;
+        last = refl;
+        open_end = refl;
+        high = omega arith;
+        spelled = λ n le. (zero, ((typedef_leaf i.place (shape.Word W.0)).tree, (refl, leaf_spelled w i W.0 n m W.1 c)));
+      } in
       let O = others_read d w (λ n. In (suc m) n w s.Spec 0) (inner s.Spec 0) (λ i x p h. IS (suc m) s.Spec 0 i x p refl (omega arith) h) All s.Spec (λ x _. tt) i (with_last (none_at i.place) (typedef_leaf i.place (shape.Word W.0)) (i.place + 1)) a.value
       (from w (turned (happens event.SoleType) (step i))) a.place C a.first in
       let K = O.0 in
       let S = completed_says d w E inner IS 5 (suc m) (omega arith) s.Decl form.Decl i K.place (one (list_from i.place a.value)) (after_first (pieces form.Decl)) x p refl refl (λ e. absurd (cc e)) K.high
-      (λ n le ts j M. record { first = (list_from i.place a.value).tree; others = ts; place = K.place; value = refl;
-            is_first = (a.value.trees, (ap (λ q. forests.node the_list (spanned i.place q) a.value.trees) K.last,
-              (K.spelled n le, plain_end d w (λ n. In (suc m) n w s.Spec 0) (inner s.Spec 0) (λ i x p h. IS (suc m) s.Spec 0 i x p refl (omega arith) h) s.Spec K.place (subst (λ q. has (starts s.Spec) (here q).class ≡ false) K.placed O.1))));
-            are_others = M })
+      (λ n le ts j M. record {
+        first = (list_from i.place a.value).tree;
+        others = ts;
+        place = K.place;
+        value = refl;
+        is_first = (
+          a.value.trees,
+          (
+            ap (λ q. forests.node the_list (spanned i.place q) a.value.trees) K.last,
+            (K.spelled n le, plain_end d w (λ n. In (suc m) n w s.Spec 0) (inner s.Spec 0) (λ i x p h. IS (suc m) s.Spec 0 i x p refl (omega arith) h) s.Spec K.place (subst (λ q. has (starts s.Spec) (here q).class ≡ false) K.placed O.1)),
+          ),
+        );
+        are_others = M;
+      })
       (subst (λ k. read body d (after_part inner s.Decl form.Decl i.place (list_from i.place a.value)) k ≡ Ok (x, p)) K.placed a.second) in
       record { place = S.place; placed = S.placed; high = S.high; spelled = λ n le. node_of w s.Decl least form.Decl n (suc m) x.tree i S.place refl low (S.spelled n le) }
 

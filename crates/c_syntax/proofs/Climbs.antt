@@ -1,5 +1,5 @@
 -- What goes on after a first part keeps what was spelled.
-use Rattle.std.proofs.Common.{◌≡◌, refl, subst, ap, sym, ◌∙◌, ℕ, zero, suc, ◌+◌, ◌<◌, ◌≤◌, max, nat_lt, nat_eq, Bool, true, false, not, ◌&&◌, List, [], ◌∷◌, Option, Some, None, Ok, arith}
+use Rattle.std.proofs.Common.{◌≡◌, refl, subst, ap, sym, ◌∙◌, ℕ, suc, ◌<◌, ◌≤◌, max, nat_lt, nat_eq, Bool, true, false, not, List, ◌∷◌, Option, Some, None, Ok, arith}
 use borrow.Author.Tests.{ltb-false}
 use Rattle.c_tokens.specs.declared.token.Shape.{Shape}
 use Rattle.c_tokens.specs.declared.token.Punct.TheVariants as punct
@@ -14,18 +14,18 @@ use Rattle.c_forms.specs.Forests.{Plain}
 use Rattle.c_forms.specs.Measures.{level, pieces}
 use Rattle.c_reader.specs.States.{State}
 use Rattle.c_reader.specs.Tokens.{Spot, step, raw_at, class_at}
-use Rattle.c_reader.specs.Readers.{Input, Reader, Found, Turn, More, Last, Of, Refuse, Give, Loop, read, below, and_then, pick, only, choose, here, when, turn_while}
+use Rattle.c_reader.specs.Readers.{Input, Reader, Found, More, Last, Of, Refuse, Loop, read, below, and_then, pick, only, choose, here}
 use Rattle.c_reader.proofs.Local.{from}
-use Rattle.c_reader.proofs.Loops.{Both, split, kept, same_answer, same_place, same_pair}
+use Rattle.c_reader.proofs.Loops.{split, kept, same_answer, same_place, same_pair}
 use Rattle.c_reader.proofs.Advance.{grew, stayed}
 use Rattle.c_reader.proofs.Sets.{both, not_true, same_class}
 use Rattle.c_syntax.specs.Allowed.{places}
 use Rattle.c_syntax.specs.Reading.{Parts, is_absent, inside, is_starred, one, completed, deeper, called, parts_by}
 use Rattle.c_syntax.specs.Grammar.{body, sign, parenthesized, tight, after_first, after_part, Standing, standing, left_level, continued_by, may_follow, is_tail, tail_by, turn, climb}
-use Rattle.c_syntax.specs.Spells.{Spelling, Matches, Parted, parts_spelled, may_be, IsNode, At, Is, Wraps, BeginsWrapped, wrapped_sort}
-use Rattle.c_syntax.proofs.Told.{levels, lower, In, Tells, Says, Calls, Inner, is_due, need, some_level, lowered, spelled_in, roomy, told_both, told_so}
+use Rattle.c_syntax.specs.Spells.{Spelling, parts_spelled, may_be, IsNode, At, Is, Wraps, BeginsWrapped, wrapped_sort}
+use Rattle.c_syntax.proofs.Told.{levels, lower, In, Tells, Says, Calls, Inner, is_due, some_level, lowered, spelled_in, roomy, told_both, told_so}
 use Rattle.c_syntax.proofs.Parts.{fine_first, Holds, picked}
-use Rattle.c_syntax.proofs.Nodes.{IsForm, node_of, as_node, none_due, ok, after_says, at_in}
+use Rattle.c_syntax.proofs.Nodes.{IsForm, node_of, none_due, ok, after_says, at_in}
 use Rattle.c_syntax.proofs.Rows.{first_sort, tail_right, owned_after, Tails, begins_one}
 
 -- nothing goes on with a member's declarator that is absent
@@ -119,9 +119,10 @@ module _ (d : ℕ) (w : List Shape) (E : Calls d w) (inner : Parts) (IS : Inner 
     placed = P.placed;
     high = P.high;
     spelled = λ n le l under.
-        let W : Wraps (levels n) (lower n w) w due x.tree i (step P.last) = record { last = P.last; left = some_level n (omega (arith, P.some)); opens = opens; begins = begins; within = P.spelled n le; is_there = there; closes = P.closes; ends = refl } in
-        (at_in k n w due l x.tree i (step P.last) (L.wraps (levels n) (lower n w) (In k n w) w l x.tree i (step P.last) W),
-          λ go. at_in 8 n w (wrapped_sort due) l x.tree i (step P.last) (L.wrapped_wraps (levels n) (lower n w) (In 8 n w) w l x.tree i (step P.last) go W));
+        let W : Wraps (levels n) (lower n w) w due x.tree i (step P.last) = record { last = P.last; left = some_level n (omega (arith, P.some)); opens = opens; begins = begins; within = P.spelled n le; is_there = there; closes = P.closes; ends = refl } in (
+          at_in k n w due l x.tree i (step P.last) (L.wraps (levels n) (lower n w) (In k n w) w l x.tree i (step P.last) W),
+          λ go. at_in 8 n w (wrapped_sort due) l x.tree i (step P.last) (L.wrapped_wraps (levels n) (lower n w) (In 8 n w) w l x.tree i (step P.last) go W),
+        );
   }
 
   -- a node stands
@@ -145,7 +146,7 @@ module _ (d : ℕ) (w : List Shape) (E : Calls d w) (inner : Parts) (IS : Inner 
       after_says d w E inner IS t t (omega arith) due f (first_sort due) (left_level (pieces f)) i m (deeper y.found) x p (L.first (pieces f) c.0) (ok_starred (is_starred f) t due (after_first (pieces f)) b.0 e.1) e.0 o
       (λ _. omega arith) (omega arith)
       (λ n le. lower_part (is_starred f) n t w (inside due (first_sort due)) (wrapped_sort due) (left_level (pieces f)) y.found.tree i m b.0 L.same
-          (lowered w (wrapped_sort due) (left_level (pieces f)) y.found.tree i m y.found.height n (λ n le. spelled_in n w (wrapped_sort due) (left_level (pieces f)) y.found.tree i m ((P n le (left_level (pieces f)) (omega arith)).1 go)) le))
+      (lowered w (wrapped_sort due) (left_level (pieces f)) y.found.tree i m y.found.height n (λ n le. spelled_in n w (wrapped_sort due) (left_level (pieces f)) y.found.tree i m ((P n le (left_level (pieces f)) (omega arith)).1 go)) le))
       (ap (λ q. read body d (completed q due f i.place (one (deeper y.found)) (after_first (pieces f))) (from w m)) (sym (all_alike (is_starred f) inner b.0)) ∙ h)
 
   tail_read : (i m : Spot) (y z : Standing) (o : Option Form) (p : Input) → continued_by due (raw_at w m.place) ≡ o → tail_right due o ≡ true → owned_after o (raw_at w m.place) ≡ Some (raw_at w m.place) → is_tail due least m.state y o ≡ true
@@ -160,7 +161,7 @@ module _ (d : ℕ) (w : List Shape) (E : Calls d w) (inner : Parts) (IS : Inner 
       let go : MayGo due y.found.tree = L.go m.state y.found.tree f b.1 in
       subst (λ (z : Standing × Input). Stands d w due k least i z.0 z.1) (same_pair (record { found = c.value; level = level f }) z c.place p c.second)
       (node_stands f i c.value c.place (both (may_be due f) _ R).0 (ltb-false (level f) least (not_true (nat_lt (level f) least) a.0))
-          (goes_after f i m y c.value c.place k R o wide go v.0 P c.first) (goes_after f i m y c.value c.place 8 R o wide go v.0 P c.first))
+      (goes_after f i m y c.value c.place k R o wide go v.0 P c.first) (goes_after f i m y c.value c.place 8 R o wide go v.0 P c.first))
   tail_read i m y z None p q R o on P h = absurd (cc on)
 
   more : (i : Spot) (y : Standing) (q : Input) (z : Standing) (p : Input) → Stands d w due k least i y q → read body d (turn due least i.place y) q ≡ Ok (More z, p) → Stands d w due k least i z p

@@ -1,7 +1,5 @@
 -- A declarator that was read is spelled.
-use Rattle.std.proofs.Common.{◌≡◌, ◌⊎◌, inl, inr, refl, subst, ap, sym, ◌∙◌, ℕ, zero, suc, ◌+◌, ◌<◌, ◌≤◌, max, nat_lt, nat_eq, Bool, true, false, not, ◌&&◌, ◌||◌, List, [], ◌∷◌, Option, Some, None, Ok, arith}
-use borrow.Author.Tests.{ltb-true}
-use Rattle.std.proofs.lemmas.Bool.{or_right, or_left}
+use Rattle.std.proofs.Common.{◌≡◌, inl, inr, refl, subst, ap, sym, ◌∙◌, ℕ, zero, suc, Bool, true, false, List, [], ◌∷◌}
 use Rattle.c_tokens.specs.declared.token.Punct.TheVariants as punct
 use Rattle.c_tokens.specs.declared.token.Shape.{Shape}
 use Rattle.c_tokens.specs.declared.class.Class.TheVariants as class
@@ -9,28 +7,23 @@ use Rattle.c_tokens.specs.ClassNumbers.{class_number}
 use Rattle.c_forms.specs.declared.pieces.Sort.{Sort}
 use Rattle.c_forms.specs.declared.pieces.Sort.TheVariants as s
 use Rattle.c_forms.specs.declared.pieces.Piece.{Piece}
-use Rattle.c_forms.specs.declared.pieces.Piece.TheVariants.{Token, Maybe, Own, TypeTokens, KindName, One, Group, Rest, Anything, Then}
+use Rattle.c_forms.specs.declared.pieces.Piece.TheVariants.{Token, Maybe, Own, One, Group, Then}
 use Rattle.c_forms.specs.declared.forms.Form.{Form}
 use Rattle.c_forms.specs.declared.forms.Form.TheVariants as form
 use Rattle.c_forms.specs.declared.forms.DeclaratorForm.TheVariants as declarator
 use Rattle.c_forms.specs.Forests.{Plain}
-use Rattle.c_forms.specs.Forests as forests
-use Rattle.c_forms.specs.Measures.{level, pieces}
+use Rattle.c_forms.specs.Measures.{pieces}
 use Rattle.c_forms.specs.Sets.{has}
 use Rattle.c_reader.specs.States.{State}
-use Rattle.c_reader.specs.Tokens.{Spot, step, raw_at, seen_at, class_at}
-use Rattle.c_reader.specs.Readers.{Input, Reader, Found, Give, Refuse, Look, Fits, Next, read, choose, when}
-use Rattle.c_reader.proofs.Local.{from}
-use Rattle.c_reader.proofs.Loops.{split, same_pair}
-use Rattle.c_reader.proofs.Sets.{both, not_true, same_class, itself}
-use Rattle.c_syntax.specs.Allowed.{places}
-use Rattle.c_syntax.specs.Reading.{Parts, Before, Usual, before_by, is_absent, is_absent_form, inside, is_starred, nothing, one, spanned, deeper, called, completed}
-use Rattle.c_syntax.specs.Grammar.{body, sign, is_sign, is_value, whole, after_first, left_level, Standing, standing, tight, may_follow, parenthesized, the_declarator, may_be_absent, may_be_named, parenthesized_sort, begins_parenthesized, absent_at, nameless_function, is_nameable, opened_declarator, declarator_head, declarator_of, climb}
-use Rattle.c_syntax.specs.Spells.{Spelling, Is, may_be, Matches, Parted, parts_spelled, IsNode, Wraps, BeginsWrapped, nameless_starts, wrapped_sort}
-use Rattle.c_syntax.proofs.Told.{levels, lower, In, Tells, Says, Calls, Inner, is_due, some_level, lowered, in_spelled, spelled_in, roomy}
-use Rattle.c_syntax.proofs.Nodes.{IsForm, node_of, as_node, completed_says, whole_says, at_in, in_at}
-use Rattle.c_syntax.proofs.Rows.{declarator_tails, abstract_tails, param_tails, member_tails, begins_one, first_sort}
-use Rattle.c_syntax.proofs.Climbs.{MayGo, Stood, Stands, Leveled, Paren, tight_read, paren_says, paren_stands, node_stands, climb_says}
+use Rattle.c_reader.specs.Tokens.{Spot, class_at}
+use Rattle.c_reader.proofs.Sets.{not_true}
+use Rattle.c_syntax.specs.Reading.{Before, Usual, before_by, is_absent, is_absent_form, inside, is_starred}
+use Rattle.c_syntax.specs.Grammar.{after_first, left_level, may_follow}
+use Rattle.c_syntax.specs.Spells.{Spelling, Is, may_be, Matches, parts_spelled, nameless_starts}
+use Rattle.c_syntax.proofs.Told.{lower, In, in_spelled}
+use Rattle.c_syntax.proofs.Nodes.{IsForm, node_of, as_node, in_at}
+use Rattle.c_syntax.proofs.Rows.{declarator_tails, abstract_tails, param_tails, member_tails, begins_one}
+use Rattle.c_syntax.proofs.Climbs.{Leveled}
 
 declarator_first : (ps : List Piece) → begins_one s.Declarator ps ≡ true → ps ≡ One s.InnerDeclarator (left_level ps) ∷ after_first ps
 declarator_first (One s.InnerDeclarator least ∷ ps) e = refl
@@ -96,10 +89,22 @@ member_matches P w f b (Token x ∷ ps) ts i j M = (M.0, member_matches P w f Us
 member_matches P w f b (Maybe x ∷ ps) ts i j (inl M) = inl (M.0, member_matches P w f Usual ps ts _ j M.1)
 member_matches P w f b (Maybe x ∷ ps) ts i j (inr M) = inr (member_matches P w f Usual ps ts i j M)
 member_matches P w f b (Own ∷ ps) ts i j M = (M.0, member_matches P w f Usual ps ts _ j M.1)
-member_matches P w f b (One due least ∷ ps) ts i j M = record { first = M.first; others = M.others; place = M.place; value = M.value; is_first = subst (λ q. P q least M.first i M.place) (member_sort due) M.is_first;
-  are_others = member_matches P w f (before_by (is_absent M.first)) ps M.others M.place j M.are_others }
-member_matches P w f b (Group r due least ∷ ps) ts i j M = record { first = M.first; others = M.others; place = M.place; value = M.value; is_first = M.is_first;
-  are_others = member_matches P w f _ ps M.others M.place j M.are_others }
+member_matches P w f b (One due least ∷ ps) ts i j M = record {
+  first = M.first;
+  others = M.others;
+  place = M.place;
+  value = M.value;
+  is_first = subst (λ q. P q least M.first i M.place) (member_sort due) M.is_first;
+  are_others = member_matches P w f (before_by (is_absent M.first)) ps M.others M.place j M.are_others;
+}
+member_matches P w f b (Group r due least ∷ ps) ts i j M = record {
+  first = M.first;
+  others = M.others;
+  place = M.place;
+  value = M.value;
+  is_first = M.is_first;
+  are_others = member_matches P w f _ ps M.others M.place j M.are_others;
+}
 member_matches P w f b (Then x ∷ ps) ts i j M = (M.0, member_matches P w f b ps ts _ j M.1)
 member_matches P w f b (_ ∷ ps) ts i j M = absurd M
 

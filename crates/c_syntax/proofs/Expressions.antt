@@ -1,12 +1,11 @@
 -- An expression that was read is spelled.
-use Rattle.std.proofs.Common.{◌≡◌, inl, inr, refl, subst, ap, sym, ◌∙◌, ℕ, zero, suc, ◌+◌, ◌-◌, ◌<◌, ◌≤◌, max, nat_lt, Bool, true, false, List, [], ◌∷◌, Option, Some, None, Ok, arith}
+use Rattle.std.proofs.Common.{◌≡◌, inl, inr, refl, subst, ap, sym, ◌∙◌, ℕ, zero, suc, ◌+◌, ◌-◌, ◌<◌, ◌≤◌, nat_lt, Bool, true, false, List, [], ◌∷◌, Option, Some, None, Ok, arith}
 use Rattle.c_tokens.specs.declared.token.Key.TheVariants as key
 use Rattle.c_tokens.specs.declared.token.Punct.TheVariants as punct
 use Rattle.c_tokens.specs.declared.token.Shape.{Shape}
 use Rattle.c_tokens.specs.declared.class.Class.TheVariants as class
 use Rattle.c_tokens.specs.ClassNumbers.{class_number}
 use Rattle.c_forms.specs.declared.pieces.Event.TheVariants as event
-use Rattle.c_forms.specs.declared.pieces.Sort.{Sort}
 use Rattle.c_forms.specs.declared.pieces.Sort.TheVariants as s
 use Rattle.c_forms.specs.declared.forms.Form.{Form}
 use Rattle.c_forms.specs.declared.forms.Form.TheVariants as form
@@ -18,19 +17,18 @@ use Rattle.c_forms.specs.Measures.{level, pieces}
 use Rattle.c_forms.specs.Sets.{has, starts}
 use Rattle.c_forms.specs.Tokens.{begun}
 use Rattle.c_reader.specs.States.{happens}
-use Rattle.c_reader.specs.Tokens.{Spot, spot, step, turned, raw_at, seen_at, class_at}
-use Rattle.c_reader.specs.Readers.{Input, Reader, Found, Opened, Give, Refuse, Fits, Change, read, below, choose, when}
+use Rattle.c_reader.specs.Tokens.{Spot, step, turned, raw_at, seen_at, class_at}
+use Rattle.c_reader.specs.Readers.{Input, Reader, Found, Opened, Refuse, Fits, Change, read, below, choose}
 use Rattle.c_reader.proofs.Local.{from}
 use Rattle.c_reader.proofs.Loops.{split, same_pair}
 use Rattle.c_reader.proofs.Sets.{both, same_class}
-use Rattle.c_syntax.specs.Reading.{Parts, is_absent, is_absent_form, is_starred, is_class, nothing, one, node, spanned, deeper, called, completed}
-use Rattle.c_syntax.specs.Grammar.{body, sign, is_sign, begins, whole, after_first, after_paren, parenthesized, Standing, standing, tight, type_or, entered, sized, sized_opened, begun_by, primary, expression, opened, climb}
-use Rattle.c_syntax.specs.Spells.{Is, may_be, Matches, IsNode, Wraps}
-use Rattle.c_syntax.proofs.Told.{levels, lower, In, Tells, Says, Calls, CallsOpened, Inner, some_level, lowered, in_spelled, spelled_in, roomy, told_so}
-use Rattle.c_syntax.proofs.Parts.{fine_first}
-use Rattle.c_syntax.proofs.Nodes.{IsForm, node_of, ok, completed_says, whole_says, at_in, in_at}
+use Rattle.c_syntax.specs.Reading.{Parts, is_absent, is_absent_form, is_class, nothing, one, node, spanned, deeper, called, completed}
+use Rattle.c_syntax.specs.Grammar.{body, is_sign, begins, whole, after_first, after_paren, parenthesized, Standing, standing, tight, type_or, entered, sized, sized_opened, begun_by, primary, expression, opened, climb}
+use Rattle.c_syntax.specs.Spells.{Is, may_be}
+use Rattle.c_syntax.proofs.Told.{lower, In, Tells, Says, Calls, CallsOpened, Inner, some_level, lowered, in_spelled, roomy}
+use Rattle.c_syntax.proofs.Nodes.{IsForm, node_of, completed_says, whole_says, in_at}
 use Rattle.c_syntax.proofs.Rows.{exp_tails, exp_first, exp_begun, begun_right, owned_by}
-use Rattle.c_syntax.proofs.Climbs.{Stood, Stands, Leveled, Paren, Tight, tight_read, paren_says, paren_stands, node_stands, climb_says}
+use Rattle.c_syntax.proofs.Climbs.{Stood, Stands, Leveled, tight_read, paren_says, paren_stands, node_stands, climb_says}
 
 pub exp_leveled : Leveled s.Exp
 exp_leveled = record {
@@ -94,8 +92,8 @@ module _ (d : ℕ) (w : List Shape) (E : Calls d w) (EO : CallsOpened d w) (inne
       let v = roomy d 0 (nat_lt 0 d) _ i.place y p refl h in
       type_or_says _ (standing 17 (parenthesized s.Exp)) i i y p
       (λ h. rest_stands (form.Exp exp.Cast) i (turned (happens event.Aside) (step i)) y p _ refl
-          (λ t x p le h. completed_says d w E inner IS t t (omega arith) s.Exp (form.Exp exp.Cast) i (turned (happens event.Aside) (step i)) nothing (after_paren (pieces (form.Exp exp.Cast))) x p refl refl (λ _. v.0) (omega arith)
-              (λ n le ts j M. (opens, (refl, M))) h) h)
+      (λ t x p le h. completed_says d w E inner IS t t (omega arith) s.Exp (form.Exp exp.Cast) i (turned (happens event.Aside) (step i)) nothing (after_paren (pieces (form.Exp exp.Cast))) x p refl refl (λ _. v.0) (omega arith)
+      (λ n le ts j M. (opens, (refl, M))) h) h)
       (λ begins h. in_parens i y p opens begins h) v.1
 
   sized_opened_says : (i : Spot) (t : ℕ) (x : Found) (p : Input) → Is w (class.Key key.Sizeof) i → Is w (class.Punct punct.LeftParen) (step i) → has (starts s.TypeName) (class_at w (turned (happens event.Aside) (step (step i)))) ≡ false
@@ -117,14 +115,14 @@ module _ (d : ℕ) (w : List Shape) (E : Calls d w) (EO : CallsOpened d w) (inne
 
   by_paren : (i : Spot) (b : Bool) (y : Standing) (p : Input) → Is w (class.Key key.Sizeof) i → 0 < d → is_sign punct.LeftParen (seen_at w (step i)) ≡ b
       → read body d (choose b (type_or (tight least (form.Exp exp.SizeofType) (completed called s.Exp (form.Exp exp.SizeofType) i.place nothing (after_paren (pieces (form.Exp exp.SizeofType)))))
-          (tight least (form.Exp exp.SizeofExp) (sized_opened i.place))) (tight least (form.Exp exp.SizeofExp) (completed called s.Exp (form.Exp exp.SizeofExp) i.place nothing (after_first (pieces (form.Exp exp.SizeofExp)))))) (from w (step i)) ≡ Ok (y, p)
+      (tight least (form.Exp exp.SizeofExp) (sized_opened i.place))) (tight least (form.Exp exp.SizeofExp) (completed called s.Exp (form.Exp exp.SizeofExp) i.place nothing (after_first (pieces (form.Exp exp.SizeofExp)))))) (from w (step i)) ≡ Ok (y, p)
       → Stands d w s.Exp k least i y p
   by_paren i true y p own room e h =
       let opens : Is w (class.Punct punct.LeftParen) (step i) = same_class (class_at w (step i)) (class_number (class.Punct punct.LeftParen)) e in
       type_or_says _ _ (step i) i y p
       (λ h. rest_stands (form.Exp exp.SizeofType) i (turned (happens event.Aside) (step (step i))) y p _ refl
-          (λ t x p le h. completed_says d w E inner IS t t (omega arith) s.Exp (form.Exp exp.SizeofType) i (turned (happens event.Aside) (step (step i))) nothing (after_paren (pieces (form.Exp exp.SizeofType))) x p refl refl (λ _. room) (omega arith)
-              (λ n le ts j M. (own, (opens, (refl, M)))) h) h)
+      (λ t x p le h. completed_says d w E inner IS t t (omega arith) s.Exp (form.Exp exp.SizeofType) i (turned (happens event.Aside) (step (step i))) nothing (after_paren (pieces (form.Exp exp.SizeofType))) x p refl refl (λ _. room) (omega arith)
+      (λ n le ts j M. (own, (opens, (refl, M)))) h) h)
       (λ begins h. rest_stands (form.Exp exp.SizeofExp) i (step (step i)) y p (sized_opened i.place) refl (λ t x p le h. sized_opened_says i t x p own opens begins h) h) h
   by_paren i false y p own room e h = rest_stands (form.Exp exp.SizeofExp) i (step i) y p _ refl
       (λ t x p le h. completed_says d w E inner IS t t (omega arith) s.Exp (form.Exp exp.SizeofExp) i (step i) nothing (after_first (pieces (form.Exp exp.SizeofExp))) x p refl refl (λ _. room) (omega arith) (λ n le ts j M. (own, M)) h) h
@@ -166,7 +164,6 @@ module _ (d : ℕ) (w : List Shape) (E : Calls d w) (EO : CallsOpened d w) (inne
       let a = split (read body d (primary inner least) (from w i)) (λ y j. read body d (climb s.Exp least i.place y) j) x p h in
       let K = goes_on i a.value a.place x p (primary_says i a.value a.place a.first) a.second in
       record { place = K.place; placed = K.placed; high = K.high; spelled = λ n le. (K.spelled n le).0 }
-
 
 module _ (d : ℕ) (w : List Shape) (E : Calls d w) (EO : CallsOpened d w) (inner : Parts) (IS : Inner d w inner) where
   by_opened : (i : Spot) (b : Bool) (y : Standing) (p : Input) → Is w (class.Punct punct.LeftParen) i → has (starts s.TypeName) (class_at w (turned (happens event.Aside) (step i))) ≡ false

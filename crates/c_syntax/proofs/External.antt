@@ -1,5 +1,5 @@
 -- An external declaration that was read is spelled.
-use Rattle.std.proofs.Common.{◌≡◌, ◌⊎◌, inl, inr, refl, subst, ap, sym, ◌∙◌, ℕ, zero, suc, ◌+◌, ◌<◌, ◌≤◌, max, nat_lt, nat_eq, Bool, true, false, not, ◌&&◌, ◌||◌, List, [], ◌∷◌, ◌++◌, Option, Some, None, Ok, arith}
+use Rattle.std.proofs.Common.{◌≡◌, ◌⊎◌, inl, inr, refl, subst, ap, sym, ◌∙◌, ℕ, zero, suc, ◌≤◌, max, Bool, true, false, not, ◌&&◌, ◌||◌, List, [], ◌∷◌, ◌++◌, Option, Some, None, Ok, arith}
 use Rattle.std.proofs.lemmas.Bool.{or_parts}
 use Rattle.c_tokens.specs.declared.token.Punct.TheVariants as punct
 use Rattle.c_tokens.specs.declared.token.Shape.{Shape}
@@ -7,7 +7,6 @@ use Rattle.c_tokens.specs.declared.token.Shape.TheVariants as shape
 use Rattle.c_tokens.specs.declared.class.Class.{Class}
 use Rattle.c_tokens.specs.ClassNumbers.{class_number}
 use Rattle.c_forms.specs.declared.pieces.Event.TheVariants as event
-use Rattle.c_forms.specs.declared.pieces.Sort.{Sort}
 use Rattle.c_forms.specs.declared.pieces.Sort.TheVariants as s
 use Rattle.c_forms.specs.declared.pieces.Repetition.TheVariants.{All, Any, Spliced}
 use Rattle.c_forms.specs.declared.forms.Form.TheVariants as form
@@ -17,20 +16,20 @@ use Rattle.c_forms.specs.Forests.{Plain, forest}
 use Rattle.c_forms.specs.Forests as forests
 use Rattle.c_forms.specs.Measures.{pieces}
 use Rattle.c_forms.specs.Rules.{is_none}
-use Rattle.c_forms.specs.Sets.{has, starts, goes_on_with, element_starts}
+use Rattle.c_forms.specs.Sets.{has, starts}
 use Rattle.c_reader.specs.States.{State, class, happens, is_function}
-use Rattle.c_reader.specs.Tokens.{Spot, step, turned, raw_at, seen_at, class_at}
-use Rattle.c_reader.specs.Readers.{Input, Reader, Found, Give, Ask, read, here, choose, ◌>>=◌}
+use Rattle.c_reader.specs.Tokens.{Spot, turned, raw_at, seen_at, class_at}
+use Rattle.c_reader.specs.Readers.{Input, Found, Give, read, here, choose, ◌>>=◌}
 use Rattle.c_reader.proofs.Local.{from}
 use Rattle.c_reader.proofs.Loops.{split, same_pair}
 use Rattle.c_reader.proofs.Sets.{only_single}
-use Rattle.c_syntax.specs.Reading.{Parts, Usual, Gathered, none_at, with_last, others, gathered, list_from, the_list, spanned, one, node, completed}
-use Rattle.c_syntax.specs.Grammar.{body, sign, is_sign, begins, after_first, after_part, goes_on_declaring, function_from, declaration_of, declaration_from, outer_by, outer, specified, unspecified, external}
+use Rattle.c_syntax.specs.Reading.{Parts, Usual, none_at, with_last, others, gathered, list_from, the_list, spanned, one, node, completed}
+use Rattle.c_syntax.specs.Grammar.{body, sign, is_sign, after_first, after_part, goes_on_declaring, function_from, declaration_of, declaration_from, outer_by, outer, specified, unspecified, external}
 use Rattle.c_syntax.specs.Spells.{IsNode, IsGroup, IsList, Chain, has_no_specifiers, started_by}
-use Rattle.c_syntax.proofs.Told.{levels, lower, In, Tells, Says, Calls, Inner, told_both}
+use Rattle.c_syntax.proofs.Told.{levels, lower, In, Says, Calls, Inner, told_both}
 use Rattle.c_syntax.proofs.Groups.{Chained, others_read}
-use Rattle.c_syntax.proofs.Parts.{Grouped, group_of, is_list, ends_there}
-use Rattle.c_syntax.proofs.Nodes.{IsForm, node_of, ok, ok_at, parts_say, completed_tells, completed_says, after_says, at_in}
+use Rattle.c_syntax.proofs.Parts.{group_of, is_list, ends_there}
+use Rattle.c_syntax.proofs.Nodes.{node_of, ok, ok_at, parts_say, completed_tells, completed_says, after_says, at_in}
 
 -- some elements are not none
 chain_some : (one : Plain → Spot → Spot → Type 0) (w : List Shape) (separator : Option Class) (n : ℕ) (ts : List Plain) (i j : Spot) → Chain one w separator n ts i j → is_none (forest ts) ≡ false
@@ -88,8 +87,14 @@ module _ (d : ℕ) (w : List Shape) (E : Calls d w) (inner : Parts) (IS : Inner 
   function_says due i q r specs name x p a c S D h =
       let F = completed_tells d w E inner IS 6 (suc (suc b)) (omega arith) s.Item (form.Item item.Function) i r (record { trees = specs.tree ∷ (name.tree ∷ []); height = max specs.height name.height })
       (after_first (after_first (pieces (form.Item item.Function)))) x p refl refl (λ e. absurd (cc e)) (omega arith)
-      (λ n le ts j M. record { first = specs.tree; others = name.tree ∷ ts; place = q; value = refl; is_first = S n (omega arith);
-            are_others = record { first = name.tree; others = ts; place = r; value = refl; is_first = D n (omega arith); are_others = M } }) h in
+      (λ n le ts j M. record {
+        first = specs.tree;
+        others = name.tree ∷ ts;
+        place = q;
+        value = refl;
+        is_first = S n (omega arith);
+        are_others = record { first = name.tree; others = ts; place = r; value = refl; is_first = D n (omega arith); are_others = M };
+      }) h in
       record {
         place = F.place;
         placed = F.placed;
@@ -107,8 +112,14 @@ module _ (d : ℕ) (w : List Shape) (E : Calls d w) (inner : Parts) (IS : Inner 
       (λ x j. Ok (node (form.Item item.Declaration) i.place j.at.place (one x), j)) x p h in
       let F = completed_says d w E inner IS 0 (suc b) (omega arith) s.Decl form.Decl i r (record { trees = specs.tree ∷ (list.tree ∷ []); height = max specs.height list.height })
       (after_first (after_first (pieces form.Decl))) e.value e.place refl refl (λ e. absurd (cc e)) (omega arith)
-      (λ n le ts j M. record { first = specs.tree; others = list.tree ∷ ts; place = q; value = refl; is_first = S n (omega arith);
-            are_others = record { first = list.tree; others = ts; place = r; value = refl; is_first = L n (omega arith); are_others = M } }) e.first in
+      (λ n le ts j M. record {
+        first = specs.tree;
+        others = list.tree ∷ ts;
+        place = q;
+        value = refl;
+        is_first = S n (omega arith);
+        are_others = record { first = list.tree; others = ts; place = r; value = refl; is_first = L n (omega arith); are_others = M };
+      }) e.first in
       subst (λ (y : Found × Input). Outer due specs i y.0 y.1) (same_pair (node (form.Item item.Declaration) i.place e.place.at.place (one e.value)) x e.place p e.second) (record {
         place = F.place;
         placed = F.placed;
@@ -120,8 +131,14 @@ module _ (d : ℕ) (w : List Shape) (E : Calls d w) (inner : Parts) (IS : Inner 
             may = refl;
             tight = low;
             left = tt;
-            matches = record { first = e.value.tree; others = []; place = F.place; value = refl;
-              is_first = at_in (suc b) n w s.Decl 0 e.value.tree i F.place (node_of w s.Decl 0 form.Decl n (suc b) e.value.tree i F.place refl (omega arith) (F.spelled n le)); are_others = (refl, refl) };
+            matches = record {
+              first = e.value.tree;
+              others = [];
+              place = F.place;
+              value = refl;
+              is_first = at_in (suc b) n w s.Decl 0 e.value.tree i F.place (node_of w s.Decl 0 form.Decl n (suc b) e.value.tree i F.place refl (omega arith) (F.spelled n le));
+              are_others = (refl, refl);
+            };
           },
           inr (none, refl),
         );
@@ -180,11 +197,16 @@ module _ (d : ℕ) (w : List Shape) (E : Calls d w) (inner : Parts) (IS : Inner 
 
   begun_so : (due : Bool) (specs : Found) (i : Spot) (x : Found) (p : Input) → is_none specs.tree.parts ≡ due → Outer due specs (started_by due i) x p → Item i x p
   unfolding Outer Item
-  begun_so due specs i x p e O = record { place = O.place; placed = O.placed; high = O.high; spelled = λ n le. let S = O.spelled n le in
+  begun_so due specs i x p e O = record {
+    place = O.place;
+    placed = O.placed;
+    high = O.high;
+    spelled = λ n le. let S = O.spelled n le in
         at_in (suc (suc b)) n w s.Item least x.tree i O.place (subst (λ b'. IsNode (levels n) (lower n w) (In (suc (suc b)) n w) w s.Item least x.tree (started_by b' i) O.place) (sym (elim S.1 [
-            | inl k ↦ k ∙ e
-            | inr k ↦ k.1 ∙ sym k.0
-          ])) S.0) }
+          | inl k ↦ k ∙ e
+          | inr k ↦ k.1 ∙ sym k.0
+        ])) S.0);
+  }
 
   by_semicolon : (i q : Spot) (specs x : Found) (p : Input) (o : Bool) → is_none specs.tree.parts ≡ false → specs.height ≤ d
       → ((n : ℕ) → specs.height ≤ n → IsList (IsGroup All s.Spec (In (suc b) n w s.Spec 0) Usual w) specs.tree i q)

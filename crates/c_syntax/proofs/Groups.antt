@@ -1,5 +1,5 @@
 -- The elements of a repetition that were read are those that are spelled.
-use Rattle.std.proofs.Common.{◌≡◌, ◌⊎◌, inl, inr, refl, subst, ap, sym, ◌∙◌, ℕ, zero, suc, ◌+◌, ◌<◌, ◌≤◌, max, nat_lt, nat_eq, Bool, true, false, ◌||◌, List, [], ◌∷◌, ◌++◌, Option, Some, None, Ok, arith}
+use Rattle.std.proofs.Common.{◌≡◌, inl, inr, refl, subst, ap, sym, ◌∙◌, ℕ, zero, suc, ◌≤◌, nat_lt, nat_eq, Bool, true, false, List, [], ◌∷◌, ◌++◌, Option, Some, None, Ok, arith}
 use borrow.Author.Tests.{ltb-true}
 use Rattle.c_tokens.specs.declared.class.Class.{Class}
 use Rattle.c_tokens.specs.declared.token.Shape.{Shape}
@@ -10,14 +10,14 @@ use Rattle.c_forms.specs.declared.pieces.Repetition.TheVariants.{Optional, Greed
 use Rattle.c_forms.specs.Forests.{Plain}
 use Rattle.c_forms.specs.Sets.{Classes, has, starts, element_starts, goes_on_with}
 use Rattle.c_reader.specs.Tokens.{Spot, step, class_at, seen_at}
-use Rattle.c_reader.specs.Readers.{Input, Reader, Found, Turn, More, Last, Give, Next, Look, read, and_then, choose, here, turn_while, ◌>>=◌}
+use Rattle.c_reader.specs.Readers.{Input, Reader, Found, Turn, More, Last, Give, Next, Look, read, choose, here, turn_while, ◌>>=◌}
 use Rattle.c_reader.proofs.Local.{from}
 use Rattle.c_reader.proofs.Loops.{Both, split, kept, same_answer, same_place, same_pair}
 use Rattle.c_reader.proofs.Advance.{grew, stayed}
 use Rattle.c_reader.proofs.Sets.{has_neither, only_single, same_class}
-use Rattle.c_syntax.specs.Reading.{Gathered, none_at, with_last, ended, element_after, separated, separator_of, is_class, goes, others, ended_turn, others_ended, many, at_most_one, any_number, gathered_by, Before, Missing, is_missing}
+use Rattle.c_syntax.specs.Reading.{Gathered, none_at, with_last, ended, element_after, separated, separator_of, is_class, goes, others, ended_turn, others_ended, many, at_most_one, any_number, gathered_by, Before, is_missing}
 use Rattle.c_syntax.specs.Grammar.{body}
-use Rattle.c_syntax.specs.Spells.{Is, Separated, Longer, Chain, Elements, Absent, Once, NoneBegins, AnyNumber, IsGroup}
+use Rattle.c_syntax.specs.Spells.{Is, Separated, Elements, Once, NoneBegins, IsGroup}
 use Rattle.c_syntax.proofs.Told.{Says}
 
 -- where a list ends: at its last element, or after a separator

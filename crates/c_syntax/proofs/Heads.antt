@@ -1,5 +1,5 @@
 -- What begins a declarator is spelled, and what goes on with it.
-use Rattle.std.proofs.Common.{◌≡◌, refl, subst, ap, sym, ◌∙◌, ℕ, zero, suc, ◌+◌, ◌<◌, ◌≤◌, max, nat_lt, nat_eq, Bool, true, false, ◌&&◌, ◌||◌, List, [], ◌∷◌, Ok, arith}
+use Rattle.std.proofs.Common.{◌≡◌, refl, subst, ap, sym, ℕ, suc, ◌<◌, ◌≤◌, nat_lt, nat_eq, Bool, true, false, ◌&&◌, ◌||◌, List, [], Ok, arith}
 use Rattle.c_tokens.specs.declared.token.Punct.TheVariants as punct
 use Rattle.c_tokens.specs.declared.token.Shape.{Shape}
 use Rattle.c_tokens.specs.declared.class.Class.TheVariants as class
@@ -10,18 +10,18 @@ use Rattle.c_forms.specs.declared.forms.DeclaratorForm.TheVariants as declarator
 use Rattle.c_forms.specs.Forests.{Plain}
 use Rattle.c_forms.specs.Measures.{level, pieces}
 use Rattle.c_forms.specs.Sets.{has}
-use Rattle.c_reader.specs.Tokens.{Spot, step, raw_at, seen_at, class_at}
-use Rattle.c_reader.specs.Readers.{Input, Reader, Found, Give, Refuse, Look, Fits, Next, read, choose, when}
+use Rattle.c_reader.specs.Tokens.{Spot, step, seen_at, class_at}
+use Rattle.c_reader.specs.Readers.{Input, Found, Give, Refuse, Look, read, choose}
 use Rattle.c_reader.proofs.Local.{from}
 use Rattle.c_reader.proofs.Loops.{split, same_pair}
 use Rattle.c_reader.proofs.Sets.{both, same_class}
-use Rattle.c_syntax.specs.Reading.{Parts, is_absent, inside, nothing, one, deeper, called, completed}
+use Rattle.c_syntax.specs.Reading.{Parts, is_absent, inside, one, deeper, called, completed}
 use Rattle.c_syntax.specs.Grammar.{body, is_sign, is_value, whole, after_first, Standing, standing, tight, parenthesized, the_declarator, may_be_absent, may_be_named, parenthesized_sort, begins_parenthesized, absent_at, nameless_function, is_nameable, opened_declarator, declarator_head, declarator_of, climb}
 use Rattle.c_syntax.specs.Spells.{Is, may_be, BeginsWrapped, Spells, nameless_starts, wrapped_sort}
-use Rattle.c_syntax.proofs.Told.{levels, lower, In, Tells, Says, Calls, Inner, is_due, lowered, spelled_in, roomy}
+use Rattle.c_syntax.proofs.Told.{levels, lower, In, Says, Calls, Inner, is_due, lowered, spelled_in, roomy}
 use Rattle.c_syntax.proofs.Parts.{fine_first}
 use Rattle.c_syntax.proofs.Nodes.{IsForm, node_of, ok, completed_says, whole_says, at_in}
-use Rattle.c_syntax.proofs.Climbs.{Stood, Stands, Leveled, tight_read, paren_says, paren_stands, node_stands, climb_says}
+use Rattle.c_syntax.proofs.Climbs.{Stands, Leveled, tight_read, paren_says, paren_stands, node_stands, climb_says}
 use Rattle.c_syntax.proofs.Declarators.{declarator_leveled, abstract_leveled, param_leveled, member_leveled, there, abstract_there, param_there}
 
 -- what a declarator in parentheses begins with
@@ -134,9 +134,14 @@ module _ (d : ℕ) (w : List Shape) (E : Calls d w) (inner : Parts) (IS : Inner 
       → Says d w (λ n t' i j. IsForm w due (the_declarator declarator.FunctionOf) n t t' i j) i x p
   function_says N t i x p opens room h = completed_says d w E inner IS t t (omega arith) due (the_declarator declarator.FunctionOf) i (step i) (one (deeper (absent_at i.place)))
       (after_first (after_first (pieces (the_declarator declarator.FunctionOf)))) x p N.fine refl (λ _. room) (omega (arith, room))
-      (λ n le ts j M. record { first = (absent_at i.place).tree; others = ts; place = i; value = refl;
-            is_first = subst (λ q. lower n w q 2 (absent_at i.place).tree i i) (sym N.inner) (lowered w due 2 (absent_at i.place).tree i i 0 n (λ n _. absent_spelled N n i) le);
-            are_others = (opens, M) }) h
+      (λ n le ts j M. record {
+        first = (absent_at i.place).tree;
+        others = ts;
+        place = i;
+        value = refl;
+        is_first = subst (λ q. lower n w q 2 (absent_at i.place).tree i i) (sym N.inner) (lowered w due 2 (absent_at i.place).tree i i 0 n (λ n _. absent_spelled N n i) le);
+        are_others = (opens, M);
+      }) h
 
   nameless_says : (N : Nameless due) (i : Spot) (y : Standing) (p : Input) → Is w (class.Punct punct.LeftParen) i → 0 < d → read body d (nameless_function due i.place) (from w (step i)) ≡ Ok (y, p) → Stands d w due k least i y p
   nameless_says N i y p opens room h =
@@ -171,7 +176,7 @@ module _ (d : ℕ) (w : List Shape) (E : Calls d w) (inner : Parts) (IS : Inner 
       let c = split (read body d (whole inner due (the_declarator declarator.Named)) (from w i)) (λ x j. Ok (record { found = x; level = 17 }, j)) y p h in
       subst (λ (y : Standing × Input). Stands d w due k least i y.0 y.1) (same_pair (record { found = c.value; level = 17 }) y c.place p c.second)
       (node_stands d w E inner IS due D.leveled k least (the_declarator declarator.Named) i c.value c.place (D.name may) (omega arith)
-          (whole_says d w E inner IS 1 k small due (the_declarator declarator.Named) i c.value c.place D.name_fine refl c.first) (whole_says d w E inner IS 1 8 (omega arith) due (the_declarator declarator.Named) i c.value c.place D.name_fine refl c.first))
+      (whole_says d w E inner IS 1 k small due (the_declarator declarator.Named) i c.value c.place D.name_fine refl c.first) (whole_says d w E inner IS 1 8 (omega arith) due (the_declarator declarator.Named) i c.value c.place D.name_fine refl c.first))
 
   by_absent : (i : Spot) (b : Bool) (y : Standing) (p : Input) → may_be_absent due ≡ b → read body d (choose b (Give (record { found = absent_at i.place; level = 17 })) Refuse) (from w i) ≡ Ok (y, p) → Stands d w due k least i y p
   by_absent i true y p e h = subst (λ (y : Standing × Input). Stands d w due k least i y.0 y.1) (same_pair (record { found = absent_at i.place; level = 17 }) y (from w i) p h)
@@ -186,13 +191,13 @@ module _ (d : ℕ) (w : List Shape) (E : Calls d w) (inner : Parts) (IS : Inner 
 
   by_star : (i : Spot) (b : Bool) (y : Standing) (p : Input)
       → read body d (choose b (tight least (the_declarator declarator.Pointer) (whole inner due (the_declarator declarator.Pointer))) (choose (is_value (seen_at w i) && may_be_named due) (standing 17 (whole inner due (the_declarator declarator.Named)))
-          (choose (may_be_absent due) (Give (record { found = absent_at i.place; level = 17 })) Refuse))) (from w i) ≡ Ok (y, p) → Stands d w due k least i y p
+      (choose (may_be_absent due) (Give (record { found = absent_at i.place; level = 17 })) Refuse))) (from w i) ≡ Ok (y, p) → Stands d w due k least i y p
   by_star i true y p h = pointer_stands i y p h
   by_star i false y p h = by_word i (is_value (seen_at w i) && may_be_named due) y p refl h
 
   by_paren : (i : Spot) (b : Bool) (y : Standing) (p : Input) → is_sign punct.LeftParen (seen_at w i) ≡ b
       → read body d (choose b (opened_declarator due i.place) (choose (is_sign punct.Star (seen_at w i)) (tight least (the_declarator declarator.Pointer) (whole inner due (the_declarator declarator.Pointer)))
-          (choose (is_value (seen_at w i) && may_be_named due) (standing 17 (whole inner due (the_declarator declarator.Named))) (choose (may_be_absent due) (Give (record { found = absent_at i.place; level = 17 })) Refuse)))) (from w i) ≡ Ok (y, p)
+      (choose (is_value (seen_at w i) && may_be_named due) (standing 17 (whole inner due (the_declarator declarator.Named))) (choose (may_be_absent due) (Give (record { found = absent_at i.place; level = 17 })) Refuse)))) (from w i) ≡ Ok (y, p)
       → Stands d w due k least i y p
   by_paren i true y p e h = opened_stands i y p (same_class (class_at w i) (class_number (class.Punct punct.LeftParen)) e) h
   by_paren i false y p e h = by_star i (is_sign punct.Star (seen_at w i)) y p h

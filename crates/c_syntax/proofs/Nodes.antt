@@ -1,5 +1,5 @@
 -- A node that was read by its row is spelled by it.
-use Rattle.std.proofs.Common.{◌≡◌, ◌⊎◌, inl, inr, refl, subst, ap, sym, ◌∙◌, ℕ, zero, suc, ◌+◌, ◌<◌, ◌≤◌, max, nat_lt, Bool, true, false, ◌&&◌, List, [], ◌∷◌, ◌++◌, Option, Some, None, Ok, arith}
+use Rattle.std.proofs.Common.{◌≡◌, refl, subst, ap, sym, ◌∙◌, ℕ, suc, ◌<◌, ◌≤◌, max, nat_lt, Bool, true, false, ◌&&◌, List, [], ◌∷◌, ◌++◌, Ok, arith}
 use borrow.Author.Tests.{ltb-true, lt-ltb}
 use Rattle.std.proofs.lemmas.Bool.{and_from}
 use Rattle.c_tokens.specs.declared.token.Shape.{Shape}
@@ -13,14 +13,14 @@ use Rattle.c_forms.specs.Forests.{Plain}
 use Rattle.c_forms.specs.Forests as forests
 use Rattle.c_forms.specs.Measures.{level, pieces}
 use Rattle.c_reader.specs.Tokens.{Spot, raw_at}
-use Rattle.c_reader.specs.Readers.{Input, Reader, Found, read, when}
+use Rattle.c_reader.specs.Readers.{Input, Found, read}
 use Rattle.c_reader.proofs.Local.{from}
 use Rattle.c_reader.proofs.Loops.{split, same_pair}
 use Rattle.c_reader.proofs.Sets.{both}
 use Rattle.c_syntax.specs.Reading.{Parts, parts_by, parts_of, Before, Usual, is_absent, before_by, inside, is_starred, spanned, Listed, nothing, one, joined, node, height_over, pieces_in, completed}
 use Rattle.c_syntax.specs.Grammar.{body, whole, charged, after_first, after_part}
-use Rattle.c_syntax.specs.Spells.{Spelling, Parted, Matches, parts_spelled, Levels, may_be, IsNode, At, InPlace}
-use Rattle.c_syntax.proofs.Told.{levels, lower, In, some_level, Tells, Says, Calls, Inner, is_due, need, called_says, roomy}
+use Rattle.c_syntax.specs.Spells.{Spelling, Matches, parts_spelled, Levels, may_be, IsNode, At, InPlace}
+use Rattle.c_syntax.proofs.Told.{levels, lower, In, some_level, Says, Calls, Inner, is_due, need, called_says, roomy}
 use Rattle.c_syntax.proofs.Parts.{fine_first, fine_first_more, Holds, row_says}
 
 -- ---- heights
@@ -111,7 +111,7 @@ module _ (d : ℕ) (w : List Shape) (E : Calls d w) (inner : Parts) (IS : Inner 
   pub completed_tells : (l k : ℕ) (small : l ≤ k) (own : Sort) (f : Form) (i m : Spot) (done : Listed) (ps : List Piece) (x : Found) (p : Input) → fine_first (ok (is_starred f) l) own ps ≡ true → Holds f ps (raw_at w m.place)
       → (is_starred f ≡ true → 0 < d) → done.height ≤ d
       → ((n : ℕ) → done.height ≤ n → (ts : List Plain) (j : Spot) → Matches (parts_spelled (is_starred f) (lower n w) (In k n w)) w own f Usual ps ts m j
-          → Matches (parts_spelled (is_starred f) (lower n w) (In k n w)) w own f Usual (pieces f) (done.trees ++ ts) i j)
+      → Matches (parts_spelled (is_starred f) (lower n w) (In k n w)) w own f Usual (pieces f) (done.trees ++ ts) i j)
       → read body d (completed (parts_of f inner) own f i.place done ps) (from w m) ≡ Ok (x, p) → Says d w (λ n t i j. IsForm w own f n k t i j × Begun f done.trees t) i x p
   unfolding completed
   completed_tells l k small own f i m done ps x p F o room high front h =
@@ -121,18 +121,21 @@ module _ (d : ℕ) (w : List Shape) (E : Calls d w) (inner : Parts) (IS : Inner 
         place = S.place;
         placed = S.placed;
         high = height_within (is_starred f) (max done.height a.value.height) d room (omega (arith, S.high));
-        spelled = λ n le. (record {
-          parts = done.trees ++ a.value.trees;
-          value = ap (λ q. forests.node f (spanned i.place q.at.place) (done.trees ++ a.value.trees)) S.placed;
-          left = level_left (is_starred f) (max done.height a.value.height) n le;
-          matches = front n (omega (arith, height_up (is_starred f) (max done.height a.value.height))) a.value.trees S.place (S.spelled n (omega (arith, height_up (is_starred f) (max done.height a.value.height))));
-        }, (a.value.trees, (spanned i.place a.place.at.place, refl)));
+        spelled = λ n le. (
+          record {
+            parts = done.trees ++ a.value.trees;
+            value = ap (λ q. forests.node f (spanned i.place q.at.place) (done.trees ++ a.value.trees)) S.placed;
+            left = level_left (is_starred f) (max done.height a.value.height) n le;
+            matches = front n (omega (arith, height_up (is_starred f) (max done.height a.value.height))) a.value.trees S.place (S.spelled n (omega (arith, height_up (is_starred f) (max done.height a.value.height))));
+          },
+          (a.value.trees, (spanned i.place a.place.at.place, refl)),
+        );
       })
 
   pub completed_says : (l k : ℕ) (small : l ≤ k) (own : Sort) (f : Form) (i m : Spot) (done : Listed) (ps : List Piece) (x : Found) (p : Input) → fine_first (ok (is_starred f) l) own ps ≡ true → Holds f ps (raw_at w m.place)
       → (is_starred f ≡ true → 0 < d) → done.height ≤ d
       → ((n : ℕ) → done.height ≤ n → (ts : List Plain) (j : Spot) → Matches (parts_spelled (is_starred f) (lower n w) (In k n w)) w own f Usual ps ts m j
-          → Matches (parts_spelled (is_starred f) (lower n w) (In k n w)) w own f Usual (pieces f) (done.trees ++ ts) i j)
+      → Matches (parts_spelled (is_starred f) (lower n w) (In k n w)) w own f Usual (pieces f) (done.trees ++ ts) i j)
       → read body d (completed (parts_of f inner) own f i.place done ps) (from w m) ≡ Ok (x, p) → Says d w (λ n t i j. IsForm w own f n k t i j) i x p
   completed_says l k small own f i m done ps x p F o room high front h = let S = completed_tells l k small own f i m done ps x p F o room high front h in
       record { place = S.place; placed = S.placed; high = S.high; spelled = λ n le. (S.spelled n le).0 }
@@ -160,8 +163,14 @@ module _ (d : ℕ) (w : List Shape) (E : Calls d w) (inner : Parts) (IS : Inner 
       → read body d (after_part inner own f i.place y) (from w m) ≡ Ok (x, p) → Says d w (λ n t i j. IsForm w own f n k t i j) i x p
   after_says l k small own f due least i m y x p e F none o room high P h = completed_says l k small own f i m (one y) (after_first (pieces f)) x p F o room high
       (λ n le ts j M. subst (λ q. Matches (parts_spelled (is_starred f) (lower n w) (In k n w)) w own f Usual q (y.tree ∷ ts) i j) (sym e)
-          (record { first = y.tree; others = ts; place = m; value = refl; is_first = P n le;
-            are_others = any_before (parts_spelled (is_starred f) (lower n w) (In k n w)) w own f Usual (before_by (is_absent y.tree)) (after_first (pieces f)) ts m j none M })) h
+      (record {
+        first = y.tree;
+        others = ts;
+        place = m;
+        value = refl;
+        is_first = P n le;
+        are_others = any_before (parts_spelled (is_starred f) (lower n w) (In k n w)) w own f Usual (before_by (is_absent y.tree)) (after_first (pieces f)) ts m j none M;
+      })) h
 
 -- ---- in place
 

@@ -1,5 +1,5 @@
 -- The pieces of a form that were read are those that are spelled.
-use Rattle.std.proofs.Common.{◌≡◌, inl, inr, refl, subst, ap, sym, ◌∙◌, ℕ, ◌+◌, ◌<◌, ◌≤◌, max, nat_eq, Bool, true, false, ◌&&◌, List, [], ◌∷◌, Option, Some, None, Ok, arith}
+use Rattle.std.proofs.Common.{◌≡◌, inl, inr, refl, subst, ap, sym, ◌∙◌, ℕ, ◌≤◌, nat_eq, Bool, true, false, ◌&&◌, List, [], ◌∷◌, Option, Some, Ok, arith}
 use Rattle.std.proofs.lemmas.Bool.{and_from}
 use Rattle.c_tokens.specs.declared.class.Class.{Class}
 use Rattle.c_tokens.specs.declared.token.Shape.{Shape}
@@ -9,23 +9,23 @@ use Rattle.c_forms.specs.declared.pieces.Sort.{Sort}
 use Rattle.c_forms.specs.declared.pieces.Repetition.{Repetition}
 use Rattle.c_forms.specs.declared.pieces.Repetition.TheVariants.{Optional, Greedy, Due, All, Any, Many, Spliced, Ended}
 use Rattle.c_forms.specs.declared.pieces.Piece.{Piece}
-use Rattle.c_forms.specs.declared.pieces.Piece.TheVariants.{Token, Maybe, Own, TypeTokens, KindName, One, Group, Rest, Anything, Then}
+use Rattle.c_forms.specs.declared.pieces.Piece.TheVariants.{Token, Maybe, Own, One, Group, Then}
 use Rattle.c_forms.specs.declared.forms.Form.{Form}
 use Rattle.c_forms.specs.Forests.{Plain, forest}
 use Rattle.c_forms.specs.Forests as forests
 use Rattle.c_forms.specs.Rules.{is_none}
 use Rattle.c_forms.specs.Tokens.{held}
 use Rattle.c_forms.specs.Sets.{has, held_class}
-use Rattle.c_reader.specs.States.{State, happens}
+use Rattle.c_reader.specs.States.{happens}
 use Rattle.c_reader.specs.Tokens.{Spot, step, turned, raw_at, class_at}
-use Rattle.c_reader.specs.Readers.{Input, Reader, Found, Give, Refuse, Change, Next, read, and_then, choose, only, pick, next, ◌>>=◌}
+use Rattle.c_reader.specs.Readers.{Input, Found, Give, Refuse, Change, Next, read, choose, only, pick, next, ◌>>=◌}
 use Rattle.c_reader.proofs.Local.{from}
-use Rattle.c_reader.proofs.Loops.{split, same_answer, same_place, same_pair}
+use Rattle.c_reader.proofs.Loops.{split, same_place, same_pair}
 use Rattle.c_reader.proofs.Sets.{both, same_class}
 use Rattle.c_syntax.specs.Allowed.{may_happen}
-use Rattle.c_syntax.specs.Reading.{Parts, Before, Usual, before_by, has_none, is_absent, inside, is_class, Listed, nothing, with_first, Gathered, list_from, the_list, spanned, gathered_by, gathered, pieces_in}
+use Rattle.c_syntax.specs.Reading.{Parts, Before, Usual, before_by, has_none, is_absent, inside, Listed, nothing, with_first, Gathered, list_from, the_list, spanned, gathered_by, gathered, pieces_in}
 use Rattle.c_syntax.specs.Grammar.{body}
-use Rattle.c_syntax.specs.Spells.{Spelling, Is, IsGroup, IsList, Parted, Matches}
+use Rattle.c_syntax.specs.Spells.{Spelling, IsGroup, IsList, Matches}
 use Rattle.c_syntax.proofs.Told.{Tells, Says}
 use Rattle.c_syntax.proofs.Groups.{Ends, Gathers, is_small, gathered_says}
 

@@ -1,5 +1,5 @@
 -- What is read as a tree of a sort is spelled as one.
-use Rattle.std.proofs.Common.{◌≡◌, refl, sym, ◌∙◌, ℕ, zero, suc, ◌<◌, ◌≤◌, nat_lt, Bool, true, List, Ok, arith}
+use Rattle.std.proofs.Common.{◌≡◌, refl, ℕ, zero, suc, ◌<◌, ◌≤◌, nat_lt, true, List, Ok, arith}
 use borrow.Author.Tests.{ltb-true}
 use Rattle.c_tokens.specs.declared.token.Shape.{Shape}
 use Rattle.c_forms.specs.declared.pieces.Sort.{Sort}
@@ -7,13 +7,12 @@ use Rattle.c_forms.specs.declared.pieces.Sort.TheVariants as s
 use Rattle.c_forms.specs.declared.forms.Form.{Form}
 use Rattle.c_forms.specs.declared.forms.Form.TheVariants as form
 use Rattle.c_forms.specs.declared.forms.GroupForm.TheVariants as group
-use Rattle.c_forms.specs.Forests.{Plain}
 use Rattle.c_forms.specs.Measures.{level, pieces}
 use Rattle.c_reader.specs.Tokens.{Spot, raw_at}
 use Rattle.c_reader.specs.Readers.{Input, Found, read}
 use Rattle.c_reader.proofs.Local.{from}
 use Rattle.c_syntax.specs.Reading.{Parts, is_starred}
-use Rattle.c_syntax.specs.Grammar.{body, whole, block_item, statement, parameters as params_reader, external, at_sort, in_place}
+use Rattle.c_syntax.specs.Grammar.{body, whole, block_item, statement, parameters as params_reader, external, at_sort}
 use Rattle.c_syntax.specs.Spells.{may_be, IsNode}
 use Rattle.c_syntax.proofs.Told.{levels, lower, In, Says, Calls, CallsOpened, Inner, is_due, need}
 use Rattle.c_syntax.proofs.Parts.{fine_first, Holds}

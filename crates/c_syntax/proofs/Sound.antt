@@ -1,5 +1,5 @@
 -- What is read is spelled.
-use Rattle.std.proofs.Common.{◌≡◌, refl, subst, ap, sym, ◌∙◌, ℕ, zero, suc, ◌<◌, ◌≤◌, true, List, Ok, arith}
+use Rattle.std.proofs.Common.{◌≡◌, refl, subst, ap, sym, ℕ, zero, suc, ◌≤◌, true, List, Ok, arith}
 use Rattle.c_tokens.specs.declared.token.Shape.{Shape}
 use Rattle.c_tokens.specs.declared.token.Punct.TheVariants as punct
 use Rattle.c_tokens.specs.declared.class.Class.TheVariants as class
@@ -7,12 +7,12 @@ use Rattle.c_forms.specs.declared.pieces.Sort.{Sort}
 use Rattle.c_forms.specs.declared.pieces.Sort.TheVariants as s
 use Rattle.c_reader.specs.States.{State}
 use Rattle.c_reader.specs.Tokens.{Spot, spot, step}
-use Rattle.c_reader.specs.Readers.{Input, Found, Of, Opened, read, below}
+use Rattle.c_reader.specs.Readers.{Input, Found, Of, read, below}
 use Rattle.c_reader.proofs.Local.{from}
 use Rattle.c_syntax.specs.Allowed.{places}
 use Rattle.c_syntax.specs.Grammar.{body, in_place, opened, item_reader}
 use Rattle.c_syntax.specs.Spells.{Is, BeginsWrapped, Spells}
-use Rattle.c_syntax.proofs.Told.{In, Tells, Says, Called, Calls, CallsOpened, Inner, is_due, need, spelled_in}
+use Rattle.c_syntax.proofs.Told.{In, Says, Calls, CallsOpened, Inner, is_due, need, spelled_in}
 use Rattle.c_syntax.proofs.Expressions.{opened_says}
 use Rattle.c_syntax.proofs.Sorts.{at_sort_says}
 

@@ -1,5 +1,5 @@
 -- A statement that was read is spelled.
-use Rattle.std.proofs.Common.{◌≡◌, ◌⊎◌, inl, inr, refl, subst, ap, sym, ◌∙◌, ℕ, zero, suc, ◌+◌, ◌<◌, ◌≤◌, nat_lt, nat_eq, Bool, true, false, ◌&&◌, ◌||◌, List, [], ◌∷◌, Option, Some, None, Ok, arith}
+use Rattle.std.proofs.Common.{◌≡◌, inl, inr, refl, subst, ap, sym, ℕ, suc, ◌+◌, ◌<◌, ◌≤◌, nat_lt, Bool, true, false, List, [], Option, Some, None, Ok, arith}
 use borrow.Author.Tests.{ltb-true}
 use Rattle.c_tokens.specs.declared.token.Word.{Word}
 use Rattle.c_tokens.specs.declared.token.Punct.TheVariants as punct
@@ -7,29 +7,27 @@ use Rattle.c_tokens.specs.declared.token.Shape.{Shape}
 use Rattle.c_tokens.specs.declared.token.Shape.TheVariants as shape
 use Rattle.c_tokens.specs.declared.class.Class.TheVariants as class
 use Rattle.c_tokens.specs.ClassNumbers.{class_number}
-use Rattle.c_forms.specs.declared.pieces.Sort.{Sort}
 use Rattle.c_forms.specs.declared.pieces.Sort.TheVariants as s
 use Rattle.c_forms.specs.declared.forms.Form.{Form}
 use Rattle.c_forms.specs.declared.forms.Form.TheVariants as form
 use Rattle.c_forms.specs.declared.forms.ExpForm.TheVariants as exp
 use Rattle.c_forms.specs.declared.forms.StmtForm.TheVariants as stmt
-use Rattle.c_forms.specs.Forests.{Plain}
-use Rattle.c_forms.specs.Measures.{level, pieces}
-use Rattle.c_forms.specs.Sets.{has, type_word}
+use Rattle.c_forms.specs.Measures.{level}
+use Rattle.c_forms.specs.Sets.{type_word}
 use Rattle.c_forms.specs.Tokens.{begun}
 use Rattle.c_reader.specs.Tokens.{Spot, step, raw_at, seen_at, class_at}
-use Rattle.c_reader.specs.Readers.{Input, Reader, Found, Refuse, read, choose, when, ◌>>=◌}
+use Rattle.c_reader.specs.Readers.{Input, Found, Refuse, read, choose, ◌>>=◌}
 use Rattle.c_reader.proofs.Local.{from}
-use Rattle.c_reader.proofs.Loops.{split, same_pair}
+use Rattle.c_reader.proofs.Loops.{split}
 use Rattle.c_reader.proofs.Sets.{both, either, same_class, single}
 use Rattle.c_reader.proofs.Seen.{seen_word, seen_type}
-use Rattle.c_syntax.specs.Reading.{Parts, is_starred, nothing, node, deeper}
+use Rattle.c_syntax.specs.Reading.{Parts, deeper}
 use Rattle.c_syntax.specs.Grammar.{body, is_sign, is_value, is_word, is_type_word, whole, after_part, climb, label, name_leaf, id_leaf, word_led, worded, statement_by, statement, block}
-use Rattle.c_syntax.specs.Spells.{Is, AnyWord, IsNode}
-use Rattle.c_syntax.proofs.Told.{levels, lower, In, Tells, Says, Calls, CallsOpened, Inner, lowered, spelled_in, roomy}
-use Rattle.c_syntax.proofs.Nodes.{IsForm, node_of, as_node, ok, after_says, whole_says, node_says, at_in}
+use Rattle.c_syntax.specs.Spells.{IsNode}
+use Rattle.c_syntax.proofs.Told.{levels, lower, In, Says, Calls, CallsOpened, Inner, lowered, spelled_in, roomy}
+use Rattle.c_syntax.proofs.Nodes.{IsForm, node_of, as_node, after_says, whole_says, node_says, at_in}
 use Rattle.c_syntax.proofs.Rows.{stmt_begun, begun_right, owned_by}
-use Rattle.c_syntax.proofs.Climbs.{Stood, Stands, node_stands}
+use Rattle.c_syntax.proofs.Climbs.{node_stands}
 use Rattle.c_syntax.proofs.Expressions.{exp_leveled, goes_on}
 
 -- what is seen as a word is one

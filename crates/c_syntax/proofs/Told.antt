@@ -1,5 +1,5 @@
 -- What a reading told: where it ended, and what is spelled up to there.
-use Rattle.std.proofs.Common.{◌≡◌, refl, subst, ap, sym, ◌∙◌, ℕ, zero, suc, ◌+◌, ◌<◌, ◌≤◌, nat_lt, Bool, true, false, List, Ok, arith}
+use Rattle.std.proofs.Common.{◌≡◌, subst, ap, sym, ◌∙◌, ℕ, zero, suc, ◌+◌, ◌<◌, ◌≤◌, nat_lt, Bool, true, false, List, Ok, arith}
 use borrow.Author.Tests.{ltb-true}
 use Rattle.c_tokens.specs.declared.token.Shape.{Shape}
 use Rattle.c_tokens.specs.declared.token.Punct.TheVariants as punct
@@ -8,9 +8,9 @@ use Rattle.c_forms.specs.declared.pieces.Sort.{Sort}
 use Rattle.c_forms.specs.declared.pieces.Sort.TheVariants as s
 use Rattle.c_forms.specs.Forests.{Plain}
 use Rattle.c_reader.specs.Tokens.{Spot, step}
-use Rattle.c_reader.specs.Readers.{Input, Outcome, Reader, Found, Of, Opened, Call, Give, Bind, read, below, and_then, when}
+use Rattle.c_reader.specs.Readers.{Input, Outcome, Found, Of, Opened, read, below, when}
 use Rattle.c_reader.proofs.Local.{from}
-use Rattle.c_reader.proofs.Loops.{Split, split, same_answer, same_place, same_pair}
+use Rattle.c_reader.proofs.Loops.{split, same_pair}
 use Rattle.c_syntax.specs.Allowed.{places}
 use Rattle.c_syntax.specs.Reading.{Parts, deeper, called}
 use Rattle.c_syntax.specs.Grammar.{body}

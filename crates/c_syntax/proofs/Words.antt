@@ -1,43 +1,36 @@
 -- Words, literals, specifiers, parameters and initializers that were read are spelled.
-use Rattle.std.proofs.Common.{◌≡◌, ◌⊎◌, inl, inr, refl, subst, ap, sym, ◌∙◌, ℕ, zero, suc, ◌+◌, ◌<◌, ◌≤◌, nat_lt, nat_eq, Bool, true, false, not, ◌&&◌, ◌||◌, List, [], ◌∷◌, Option, Some, None, Ok, arith}
+use Rattle.std.proofs.Common.{◌≡◌, refl, subst, ap, sym, ◌∙◌, ℕ, suc, ◌+◌, ◌<◌, ◌≤◌, nat_lt, Bool, true, false, List, Option, Some, None, Ok, arith}
 use borrow.Author.Tests.{ltb-true}
-use Rattle.std.proofs.lemmas.Bool.{or_right, or_left}
 use Rattle.c_tokens.specs.declared.token.Word.{Word}
 use Rattle.c_tokens.specs.declared.token.Punct.TheVariants as punct
 use Rattle.c_tokens.specs.declared.token.Shape.{Shape}
 use Rattle.c_tokens.specs.declared.token.Shape.TheVariants as shape
-use Rattle.c_tokens.specs.declared.class.Class.{Class}
 use Rattle.c_tokens.specs.declared.class.Class.TheVariants as class
 use Rattle.c_tokens.specs.ClassNumbers.{class_number}
 use Rattle.c_forms.specs.declared.pieces.Event.TheVariants as event
 use Rattle.c_forms.specs.declared.pieces.Sort.{Sort}
 use Rattle.c_forms.specs.declared.pieces.Sort.TheVariants as s
-use Rattle.c_forms.specs.declared.pieces.Repetition.TheVariants.{Ended}
 use Rattle.c_forms.specs.declared.forms.Form.{Form}
 use Rattle.c_forms.specs.declared.forms.Form.TheVariants as form
 use Rattle.c_forms.specs.declared.forms.SpecForm.TheVariants as spec
-use Rattle.c_forms.specs.declared.forms.ParamsForm.TheVariants as params
 use Rattle.c_forms.specs.declared.forms.InitForm.TheVariants as init
-use Rattle.c_forms.specs.Forests.{Plain, Forest, forest}
-use Rattle.c_forms.specs.Forests as forests
+use Rattle.c_forms.specs.Forests.{Plain}
 use Rattle.c_forms.specs.Measures.{level, pieces}
-use Rattle.c_forms.specs.Rules.{is_none, in_first}
 use Rattle.c_forms.specs.Sets.{has, starts, type_word}
 use Rattle.c_forms.specs.Tokens.{begun}
-use Rattle.c_reader.specs.States.{State, happens, noted}
+use Rattle.c_reader.specs.States.{happens, noted}
 use Rattle.c_reader.specs.Tokens.{Spot, step, turned, raw_at, seen_at, class_at}
-use Rattle.c_reader.specs.Readers.{Input, Reader, Found, Give, Refuse, read, and_then, choose, pick, only, next, here, change, ◌>>=◌, ◌>>◌}
+use Rattle.c_reader.specs.Readers.{Input, Found, Refuse, read, choose, pick, next, change}
 use Rattle.c_reader.proofs.Local.{from}
 use Rattle.c_reader.proofs.Loops.{split, same_answer, same_place, same_pair}
-use Rattle.c_reader.proofs.Sets.{both, same_class, itself}
-use Rattle.c_syntax.specs.Allowed.{may_stand, has_name}
-use Rattle.c_syntax.specs.Reading.{Parts, Usual, Gathered, is_starred, nothing, one, node, spanned, list_from, gathered}
-use Rattle.c_syntax.specs.Grammar.{body, sign, is_sign, is_value, is_word, begins, whole, word_of, leaf_of, leaf_if, literal_of, identifier, declared_identifier, parameter_identifier, enumerator_identifier, literal, is_type_word, typedef_of, spec_of, specifier_by, specifier, typed, parameters, initializer}
-use Rattle.c_syntax.specs.Spells.{Spelling, Is, AnyWord, ValueWord, IsLiteral, after_name, may_be, may_list, Chain, IsNode, At, IsGroup, Matches, Parted, IsList}
-use Rattle.c_syntax.proofs.Told.{levels, lower, In, Tells, Says, Calls, Inner, is_due, some_level}
-use Rattle.c_syntax.proofs.Groups.{Ends}
-use Rattle.c_syntax.proofs.Parts.{fine_first, Holds, picked, group_of, is_list, Grouped}
-use Rattle.c_syntax.proofs.Nodes.{IsForm, node_of, ok, ok_at, parts_say, whole_says, node_says, at_in, in_at}
+use Rattle.c_reader.proofs.Sets.{both, same_class}
+use Rattle.c_syntax.specs.Allowed.{may_stand}
+use Rattle.c_syntax.specs.Reading.{Parts, is_starred, nothing, node}
+use Rattle.c_syntax.specs.Grammar.{body, is_sign, is_value, is_word, whole, leaf_if, literal_of, identifier, declared_identifier, parameter_identifier, enumerator_identifier, literal, is_type_word, typedef_of, spec_of, specifier_by, specifier, initializer}
+use Rattle.c_syntax.specs.Spells.{Spelling, AnyWord, ValueWord, after_name, may_be, IsNode, At}
+use Rattle.c_syntax.proofs.Told.{levels, lower, In, Tells, Says, Calls, Inner}
+use Rattle.c_syntax.proofs.Parts.{fine_first, Holds}
+use Rattle.c_syntax.proofs.Nodes.{node_of, ok, whole_says, node_says, at_in}
 use Rattle.c_syntax.proofs.Rows.{SpecsOf, lowest, spec_begun, plain_begun, qualifier_begun, begun_right, owned_by}
 
 -- ---- words
@@ -126,9 +119,14 @@ module _ (d : ℕ) (w : List Shape) (E : Calls d w) (inner : Parts) (IS : Inner 
         → read body d (choose b (whole inner due f) Refuse) (from w i) ≡ Ok (x, p) → Says d w (λ n. In (suc k) n w due least) i x p
     spec_of_form f true i x p stand may tight F o h =
         let S = whole_says d w E inner IS 0 k (omega arith) due f i x p F o h in
-        record { place = S.place; placed = S.placed; high = S.high; spelled = λ n le.
+        record {
+          place = S.place;
+          placed = S.placed;
+          high = S.high;
+          spelled = λ n le.
               let G = S.spelled n le in
-              at_in k n w due least x.tree i S.place (D.at (levels n) (lower n w) (In k n w) w least x.tree i S.place (ap (λ t. may_stand i.state t.form) G.value ∙ stand) (node_of w due least f n k x.tree i S.place may (omega arith) G)) }
+              at_in k n w due least x.tree i S.place (D.at (levels n) (lower n w) (In k n w) w least x.tree i S.place (ap (λ t. may_stand i.state t.form) G.value ∙ stand) (node_of w due least f n k x.tree i S.place may (omega arith) G));
+        }
     spec_of_form f false i x p stand may tight F o h = absurd (cc h)
 
     by_form : (i : Spot) (o : Option Form) (x : Found) (p : Input) → begun_right due 0 o ≡ true → 17 ≤ lowest due + 1 → owned_by o (raw_at w i.place) ≡ Some (raw_at w i.place) → read body d (specifier_by inner due i.state o) (from w i) ≡ Ok (x, p) → Says d w (λ n. In (suc k) n w due least) i x p

@@ -1,5 +1,5 @@
 -- What the state of a declaration allows, and how deep nodes that do not count for the height lie in one another.
-use Rattle.std.specs.Prelude.{ℕ, Bool, true, false, not, ◌&&◌, ◌||◌, Option, is_some}
+use Rattle.std.specs.Prelude.{ℕ, Bool, true, false, not, ◌&&◌, ◌||◌, is_some}
 use Rattle.c_forms.specs.declared.pieces.Event.{Event}
 use Rattle.c_forms.specs.declared.pieces.Event.TheVariants as event
 use Rattle.c_forms.specs.declared.forms.Form.{Form}

@@ -1,5 +1,5 @@
 -- The reader of plain C90, made of the table of forms (ISO/IEC 9899:1990, 6.3 to 6.7).
-use Rattle.std.specs.Prelude.{ℕ, zero, suc, ◌+◌, ◌-◌, max, Bool, true, false, not, ◌&&◌, ◌||◌, nat_eq, nat_lt, List, [], ◌∷◌, Option, Some, None, if◌then◌else◌}
+use Rattle.std.specs.Prelude.{ℕ, zero, suc, ◌+◌, ◌-◌, max, Bool, true, false, not, ◌&&◌, ◌||◌, nat_eq, nat_lt, List, [], ◌∷◌, Option, Some, None}
 use Rattle.c_tokens.specs.declared.token.Word.{Word}
 use Rattle.c_tokens.specs.declared.token.Key.TheVariants as key
 use Rattle.c_tokens.specs.declared.token.Punct.{Punct}
@@ -29,12 +29,11 @@ use Rattle.c_forms.specs.declared.forms.GroupForm.TheVariants as group
 use Rattle.c_forms.specs.Forests.{Plain}
 use Rattle.c_forms.specs.Measures.{level, pieces}
 use Rattle.c_forms.specs.Tokens.{begun, continued}
-use Rattle.c_forms.specs.Sets.{has, starts, type_word, goes_on}
+use Rattle.c_forms.specs.Sets.{has, starts, type_word}
 use Rattle.c_reader.specs.States.{State, Seen, is_function, is_bare}
-use Rattle.c_reader.specs.Tokens.{Spot}
-use Rattle.c_reader.specs.Readers.{Reader, Found, Turn, Body, Rule, Of, Opened, Give, Refuse, Look, Next, Pick, Note, Bind, Fits, Call, Loop, Ask, Change, ◌>>=◌, ◌>>◌, choose, only, token, turn_while}
+use Rattle.c_reader.specs.Readers.{Reader, Found, Turn, Body, Of, Opened, Give, Refuse, Look, Next, Pick, Note, Fits, Call, Loop, Ask, Change, ◌>>=◌, ◌>>◌, choose, token, turn_while}
 use Rattle.c_syntax.specs.Allowed.{may_stand, has_name, places}
-use Rattle.c_syntax.specs.Reading.{Usual, Listed, Parts, Gathered, nothing, one, node, deeper, called, parts_of, is_starred, with_last, none_at, list_from, is_absent, is_class, others, many, grouped, gathered, pieces_in, completed}
+use Rattle.c_syntax.specs.Reading.{Usual, Parts, nothing, one, node, deeper, called, parts_of, is_starred, with_last, none_at, list_from, is_absent, is_class, others, grouped, gathered, completed}
 
 -- ---- classes of tokens
 
@@ -182,7 +181,7 @@ sized_opened i = Call Opened >>= λ x. Ask (λ j. Give (node (form.Exp exp.Sizeo
 abbrev pub sized : Parts → ℕ → ℕ → Reader Standing
 sized inner least i = Fits 0 (Next (Look (λ x. choose (is_sign punct.LeftParen x)
     (type_or (tight least (form.Exp exp.SizeofType) (completed called s.Exp (form.Exp exp.SizeofType) i nothing (after_paren (pieces (form.Exp exp.SizeofType)))))
-        (tight least (form.Exp exp.SizeofExp) (sized_opened i)))
+    (tight least (form.Exp exp.SizeofExp) (sized_opened i)))
     (tight least (form.Exp exp.SizeofExp) (completed called s.Exp (form.Exp exp.SizeofExp) i nothing (after_first (pieces (form.Exp exp.SizeofExp))))))))
 
 abbrev pub begun_by : Parts → ℕ → Option Form → Reader Standing
@@ -275,8 +274,8 @@ specifier inner due = Ask (λ i. Look (λ x. choose (begins due x) (specifier_by
 abbrev pub typed : Parts → ℕ → Reader Found
 typed inner i = gathered (Ended (sign punct.Comma) (sign punct.Ellipsis)) s.Param (inner s.Param 0) Usual
     >>= λ g. choose g.1.is_ended
-        (token (class_number (sign punct.Ellipsis)) >> Ask (λ j. Give (node (form.Params params.TypedAndMore) i j.place (one (list_from g.0 g.1)))))
-        (Ask (λ j. Give (node (form.Params params.Typed) i j.place (one (list_from g.0 g.1)))))
+    (token (class_number (sign punct.Ellipsis)) >> Ask (λ j. Give (node (form.Params params.TypedAndMore) i j.place (one (list_from g.0 g.1)))))
+    (Ask (λ j. Give (node (form.Params params.Typed) i j.place (one (list_from g.0 g.1)))))
 
 -- a declarator without a name has no identifier list
 unfoldable pub parameters : Parts → Reader Found

@@ -1,5 +1,5 @@
 -- What spells a tree in plain C90 (ISO/IEC 9899:1990, 6.3 to 6.7), whatever reads it.
-use Rattle.std.specs.Prelude.{◌≡◌, ◌≤◌, ◌⊎◌, ℕ, zero, suc, ◌+◌, Bool, true, false, not, ◌&&◌, ◌||◌, nat_eq, List, [], ◌∷◌, ◌++◌, Option, Some, None, if◌then◌else◌}
+use Rattle.std.specs.Prelude.{◌≡◌, ◌≤◌, ◌⊎◌, ℕ, zero, suc, ◌+◌, Bool, true, false, not, ◌&&◌, ◌||◌, List, [], ◌∷◌, ◌++◌, Option, Some, None}
 use Rattle.c_tokens.specs.declared.token.Word.{Word}
 use Rattle.c_tokens.specs.declared.token.Punct.TheVariants as punct
 use Rattle.c_tokens.specs.declared.token.Shape.{Shape}
@@ -7,7 +7,6 @@ use Rattle.c_tokens.specs.declared.token.Shape.TheVariants as shape
 use Rattle.c_tokens.specs.declared.class.Class.{Class}
 use Rattle.c_tokens.specs.declared.class.Class.TheVariants as class
 use Rattle.c_tokens.specs.ClassNumbers.{class_number}
-use Rattle.c_forms.specs.declared.pieces.Event.{Event}
 use Rattle.c_forms.specs.declared.pieces.Event.TheVariants as event
 use Rattle.c_forms.specs.declared.pieces.Sort.{Sort}
 use Rattle.c_forms.specs.declared.pieces.Sort.TheVariants as s
@@ -27,12 +26,11 @@ use Rattle.c_forms.specs.Measures.{level, pieces, is_plain}
 use Rattle.c_forms.specs.Places.{stands}
 use Rattle.c_forms.specs.Rules.{is_none, in_first}
 use Rattle.c_forms.specs.Tokens.{held}
-use Rattle.c_forms.specs.Sets.{Classes, has, starts, element_starts, held_class}
+use Rattle.c_forms.specs.Sets.{Classes, has, starts, held_class}
 use Rattle.c_reader.specs.States.{State, happens, noted}
 use Rattle.c_reader.specs.Tokens.{Spot, step, turned, raw_at, class_at}
 use Rattle.c_syntax.specs.Allowed.{may_happen, may_stand, has_name, places}
 use Rattle.c_syntax.specs.Reading.{Before, Usual, before_by, is_missing, is_absent, inside, is_starred, spanned, the_list}
-
 
 -- the tokens from one spot to another spell a tree of a sort, of at least a level
 abbrev pub Spelling : Type 1
