@@ -166,7 +166,3 @@ plain_begun _ st b = (refl, refl)
 pub qualifier_begun : SpecsOf s.Qualifier
 qualifier_begun (shape.Key k) st b = let e = qualifier_keys k st in (by_test _ _ e.0 b, e.1)
 qualifier_begun _ st b = (refl, refl)
-
-inner_first : (ps : List Piece) → begins_one s.Declarator ps ≡ true → ps ≡ One s.InnerDeclarator (left_level ps) ∷ after_first ps
-inner_first (One s.InnerDeclarator least ∷ ps) e = refl
-inner_first _ e = absurd (cc e)
