@@ -109,9 +109,9 @@ width i x = list i (i + 2) (over (form.Group group.Width) i (i + 2) (number (i +
 -- `struct { int a : 3 , : 0 ; } x ;`
 fields : tree (Key k.Struct ∷ Sign p.LeftBrace ∷ Key k.Int ∷ w 4 ∷ Sign p.Colon ∷ n 8 ∷ Sign p.Comma ∷ Sign p.Colon ∷ n 9 ∷ Sign p.Semicolon ∷ Sign p.RightBrace ∷ w 3 ∷ Sign p.Semicolon ∷ [])
     ≡ Some (over (form.Item item.Declaration) 0 13 (over form.Decl 0 13 (list 0 11 (over (form.Spec (spec.StructOf key.Struct)) 0 11 (no_list 1 ∷ (list 1 11
-        (over (form.Group group.Members) 1 11 (list 2 10 (over form.Member 2 10 (list 2 3 (int 2 ∷ []) ∷ (list 3 9
-            (over (form.Group group.MemberDeclarator) 3 6 (named 3 4 ∷ (width 4 8 ∷ [])) ∷ (over (form.Group group.MemberDeclarator) 7 9 (absent 7 ∷ (width 7 9 ∷ [])) ∷ []))
-        ∷ [])) ∷ []) ∷ []) ∷ []) ∷ [])) ∷ [])
+    (over (form.Group group.Members) 1 11 (list 2 10 (over form.Member 2 10 (list 2 3 (int 2 ∷ []) ∷ (list 3 9
+    (over (form.Group group.MemberDeclarator) 3 6 (named 3 4 ∷ (width 4 8 ∷ [])) ∷ (over (form.Group group.MemberDeclarator) 7 9 (absent 7 ∷ (width 7 9 ∷ [])) ∷ []))
+    ∷ [])) ∷ []) ∷ []) ∷ []) ∷ [])) ∷ [])
     ∷ (list 11 12 (over (form.Group group.InitDeclarator) 11 12 (named 11 3 ∷ (no_list 12 ∷ [])) ∷ []) ∷ [])) ∷ []))
 unfolding element_after others others_ended many gathered pieces_in completed whole climb type_or primary expression opened declarator_head declarator_of specifier parameters worded statement type_first block_item external in_place below loop
 fields = refl
@@ -125,28 +125,28 @@ more_parameters = refl
 -- `int x [ ] = { 1 , 2 , } ;`
 braces : tree (Key k.Int ∷ w 3 ∷ Sign p.LeftBracket ∷ Sign p.RightBracket ∷ Sign p.Equal ∷ Sign p.LeftBrace ∷ n 8 ∷ Sign p.Comma ∷ n 9 ∷ Sign p.Comma ∷ Sign p.RightBrace ∷ Sign p.Semicolon ∷ [])
     ≡ Some (declares 11 (over (form.Declarator declarator.ArrayOf) 1 4 (named 1 3 ∷ (no_list 3 ∷ []))) (list 4 11 (over (form.Group group.Initializer) 4 11
-        (over (form.Init init.Braces) 5 11 (list 6 9 (over (form.Init init.One) 6 7 (number 6 8 ∷ []) ∷ (over (form.Init init.One) 8 9 (number 8 9 ∷ []) ∷ [])) ∷ []) ∷ []) ∷ [])))
+    (over (form.Init init.Braces) 5 11 (list 6 9 (over (form.Init init.One) 6 7 (number 6 8 ∷ []) ∷ (over (form.Init init.One) 8 9 (number 8 9 ∷ []) ∷ [])) ∷ []) ∷ []) ∷ [])))
 unfolding element_after others others_ended many gathered pieces_in completed whole climb type_or primary expression opened declarator_head declarator_of specifier parameters worded statement type_first block_item external in_place below loop
 braces = refl
 
 -- `f ( ) { if ( a ) if ( b ) ; else T : ; }`: the `else` is the inner one's, and T a label
 nested : tree (w 3 ∷ Sign p.LeftParen ∷ Sign p.RightParen ∷ Sign p.LeftBrace ∷ Key k.If ∷ Sign p.LeftParen ∷ w 4 ∷ Sign p.RightParen ∷ Key k.If ∷ Sign p.LeftParen ∷ w 5 ∷ Sign p.RightParen ∷ Sign p.Semicolon ∷ Key k.Else ∷ w 1 ∷ Sign p.Colon ∷ Sign p.Semicolon ∷ Sign p.RightBrace ∷ [])
     ≡ Some (over (form.Item item.Function) 0 18 (no_list 0 ∷ (over (form.Declarator declarator.FunctionOf) 0 3 (named 0 3 ∷ (over (form.Params params.Ids) 2 2 (no_list 2 ∷ []) ∷ [])) ∷ (no_list 3 ∷ (over (form.Stmt stmt.Block) 3 18 (list 4 17
-        (over (form.Stmt stmt.If) 4 17 (name 6 4 ∷ (over (form.Stmt stmt.If) 8 17 (name 10 5 ∷ (over (form.Stmt stmt.Empty) 12 13 [] ∷ (list 13 17 (over (form.Group group.ElsePart) 13 17
-            (over (form.Stmt stmt.Label) 14 17 (over (form.Id (word 1)) 14 15 [] ∷ (over (form.Stmt stmt.Empty) 16 17 [] ∷ [])) ∷ []) ∷ []) ∷ []))) ∷ (no_list 17 ∷ []))) ∷ []) ∷ []) ∷ [])))))
+    (over (form.Stmt stmt.If) 4 17 (name 6 4 ∷ (over (form.Stmt stmt.If) 8 17 (name 10 5 ∷ (over (form.Stmt stmt.Empty) 12 13 [] ∷ (list 13 17 (over (form.Group group.ElsePart) 13 17
+    (over (form.Stmt stmt.Label) 14 17 (over (form.Id (word 1)) 14 15 [] ∷ (over (form.Stmt stmt.Empty) 16 17 [] ∷ [])) ∷ []) ∷ []) ∷ []))) ∷ (no_list 17 ∷ []))) ∷ []) ∷ []) ∷ [])))))
 unfolding element_after others others_ended many gathered pieces_in completed whole climb type_or primary expression opened declarator_head declarator_of specifier parameters worded statement type_first block_item external in_place below loop
 nested = refl
 
 -- `int ( * f ) ( T ) ;`
 pointer_to_function : tree (Key k.Int ∷ Sign p.LeftParen ∷ Sign p.Star ∷ w 3 ∷ Sign p.RightParen ∷ Sign p.LeftParen ∷ w 1 ∷ Sign p.RightParen ∷ Sign p.Semicolon ∷ [])
     ≡ Some (declares 8 (over (form.Declarator declarator.FunctionOf) 1 8 (over (form.Declarator declarator.Pointer) 2 4 (no_list 3 ∷ (named 3 3 ∷ [])) ∷ (over (form.Params params.Typed) 6 7 (list 6 7
-        (over form.Param 6 7 (list 6 7 (over (form.Spec (spec.Typedef (word 1))) 6 7 [] ∷ []) ∷ (absent 7 ∷ [])) ∷ []) ∷ []) ∷ []))) (no_list 8))
+    (over form.Param 6 7 (list 6 7 (over (form.Spec (spec.Typedef (word 1))) 6 7 [] ∷ []) ∷ (absent 7 ∷ [])) ∷ []) ∷ []) ∷ []))) (no_list 8))
 unfolding element_after others others_ended many gathered pieces_in completed whole climb type_or primary expression opened declarator_head declarator_of specifier parameters worded statement type_first block_item external in_place below loop
 pointer_to_function = refl
 
 -- `int x = ( T * ) & a ;`
 cast : tree (Key k.Int ∷ w 3 ∷ Sign p.Equal ∷ Sign p.LeftParen ∷ w 1 ∷ Sign p.Star ∷ Sign p.RightParen ∷ Sign p.Ampersand ∷ w 4 ∷ Sign p.Semicolon ∷ [])
     ≡ Some (declares 9 (named 1 3) (is_first 2 9 (over (form.Exp exp.Cast) 3 9 (over form.TypeName 4 6 (list 4 5 (over (form.Spec (spec.Typedef (word 1))) 4 5 [] ∷ []) ∷ (over (form.Declarator declarator.Pointer) 5 6 (no_list 6 ∷ (absent 6 ∷ [])) ∷ []))
-        ∷ (over (form.Exp (exp.Unary unary.Address)) 7 9 (name 8 4 ∷ []) ∷ [])))))
+    ∷ (over (form.Exp (exp.Unary unary.Address)) 7 9 (name 8 4 ∷ []) ∷ [])))))
 unfolding element_after others others_ended many gathered pieces_in completed whole climb type_or primary expression opened declarator_head declarator_of specifier parameters worded statement type_first block_item external in_place below loop
 cast = refl
