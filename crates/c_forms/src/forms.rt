@@ -1,5 +1,8 @@
 //! The forms of nodes, without their parts.
 
+ghost use Rattle.std.specs.Prelude.{◌≡◌};
+ghost use Rattle.c_forms.specs.Equal.{one_form};
+
 use crate::operators::{
     AssignmentOperator, BasicType, BinaryOperator, MetaUnaryOperator, StorageClass, StructOrUnion,
     TypeQualifier, UnaryOperator,
@@ -305,4 +308,13 @@ pub enum Form {
         tail: bool,
     },
     Group(GroupForm),
+}
+
+impl Form {
+    /// Whether two forms are equal.
+    pub fn is_same(self, other: Form) -> bool
+        ensures { result ≡ one_form self other }
+    {
+        self == other
+    }
 }

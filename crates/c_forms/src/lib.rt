@@ -3,14 +3,11 @@
 #![tactic(auto)]
 
 mod forms;
-mod measures;
 mod operators;
 mod pieces;
 mod places;
-mod rows;
 mod rules;
-mod table;
-mod tokens;
+pub mod table;
 
 pub use forms::{
     DeclaratorForm, ElementForm, ExpForm, Form, GroupForm, HoleForm, InitForm, ItemForm,
@@ -21,9 +18,5 @@ pub use operators::{
     TypeQualifier, UnaryOperator,
 };
 pub use pieces::{Counts, Event, Piece, Repetition, Role, Row, Sort};
-pub use places::{
-    Occupant, joins, occupant_of, serves, serves_as_list, serves_as_one, sort_of_kind, stands,
-};
-pub use rows::row;
+pub use places::Occupant;
 pub use rules::Rule;
-pub use tokens::{begun, continued};

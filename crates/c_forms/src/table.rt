@@ -1,4 +1,4 @@
-//! The pieces of each row.
+//! The pieces of each row. A constant is named after the form whose row it is, or after what several rows share.
 
 use crate::pieces::Event::*;
 use crate::pieces::Piece::{

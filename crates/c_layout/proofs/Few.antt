@@ -3,6 +3,8 @@ use Rattle.std.proofs.Common.{◌≡◌, ◌≤◌, nat_lt, length, ◌<◌, ari
 use borrow.Author.Tests.{ltb-true}
 use Rattle.c_tokens.specs.declared.kind.Kind.{Kind}
 use Rattle.c_tokens.specs.declared.kind.Kind.TheVariants as kind
+use Rattle.c_forms.specs.declared.operators.StorageClass.{StorageClass}
+use Rattle.c_forms.specs.declared.operators.StorageClass.TheVariants as storage
 use Rattle.c_forms.specs.declared.operators.BinaryOperator.{BinaryOperator}
 use Rattle.c_forms.specs.declared.operators.BinaryOperator.TheVariants as operator
 use Rattle.c_forms.specs.declared.forms.ExpForm.{ExpForm}
@@ -59,7 +61,12 @@ few_exp (exp.Binary o) = few_binary o
 few_exp exp.Str = refl
 few_exp _ = refl
 
+few_storage : (c : StorageClass) → is_few (form.Spec (spec.Storage c)) ≡ true
+few_storage storage.Typedef = refl
+few_storage _ = refl
+
 few_spec : (f : SpecForm) → is_few (form.Spec f) ≡ true
+few_spec (spec.Storage c) = few_storage c
 few_spec spec.EnumOf = refl
 few_spec _ = refl
 

@@ -14,6 +14,8 @@ use crate::standing::{
 use c_forms::{Form, Piece};
 use c_tokens::{Memory, Punct};
 use c_trees::Tree;
+use form_rows::{level, pieces};
+use form_tokens::held;
 
 fn push(mark: Mark, marks: &mut Vec<Mark>) -> Result<(), Memory>
     ensures { OnOk result (marks.new.items ≡ marks.old.items ++ mark ∷ []) }
@@ -65,13 +67,7 @@ fn deeper(depth: u32) -> Result<u32, Memory>
 fn put_tree(depth: u32, tree: &Tree, marks: &mut Vec<Mark>) -> Result<(), Memory>
     ensures { OnOk result (marks.new.items ≡ marks.old.items ++ layouts.laid_at depth tree.now) }
 {
-    put(
-        tree.form().pieces(),
-        tree.form(),
-        tree.parts(),
-        depth,
-        marks,
-    )
+    put(pieces(tree.form()), tree.form(), tree.parts(), depth, marks)
 }
 
 /// The marks of a part, in parentheses if it holds together less tightly than is due.
@@ -79,7 +75,7 @@ fn put_tree(depth: u32, tree: &Tree, marks: &mut Vec<Mark>) -> Result<(), Memory
 fn put_placed(due: u8, depth: u32, tree: &Tree, marks: &mut Vec<Mark>) -> Result<(), Memory>
     ensures { OnOk result (marks.new.items ≡ marks.old.items ++ layouts.placed due depth (head_of tree.now)) }
 {
-    if tree.form().level() < due {
+    if level(tree.form()) < due {
         push(plain(Punct::LeftParen), marks)?;
         put_tree(depth, tree, marks)?;
         push(plain(Punct::RightParen), marks)
@@ -214,7 +210,7 @@ fn put(
                 put(pieces, form, parts, depth, marks)
             }
             Piece::Own => {
-                push_any(token_in(form, form.held()), marks)?;
+                push_any(token_in(form, held(form)), marks)?;
                 put(pieces, form, parts, depth, marks)
             }
             Piece::One(due, least) => match parts.split_first() {

@@ -1,5 +1,3 @@
 mod Lengths
 mod Lasts
-mod Numbers
-mod Worked
-mod BinderSteps
+pub mod Numbers

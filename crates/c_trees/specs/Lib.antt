@@ -6,5 +6,3 @@ pub mod Falls
 pub mod Same
 pub mod Valid
 pub mod Depths
-pub mod Stops
-pub mod Bindings

@@ -13,6 +13,7 @@ ghost use Rattle.c_trees.specs.Counts.{capped, count, count_tree, high, high_tre
 use crate::parts::Parts;
 use c_forms::{Form, GroupForm};
 use c_tokens::{Memory, Span};
+use form_rows::{is_plain, star, weight};
 use std::alloc::Global;
 use std::marker::Model;
 use std::rc::Rc;
@@ -114,7 +115,7 @@ impl Tree {
         ensures { result ≡ capped (count_tree self.now) }
     {
         match &self.held {
-            Held::Leaf { form, .. } => form.weight() as u64,
+            Held::Leaf { form, .. } => weight(*form) as u64,
             Held::Branch(node) => node.as_ref().size,
         }
     }
@@ -126,7 +127,7 @@ impl Tree {
         ensures valid { valid_tree self.now ≡ true }
     {
         match &self.held {
-            Held::Leaf { form, .. } => form.star(),
+            Held::Leaf { form, .. } => star(*form),
             Held::Branch(node) => node.as_ref().height,
         }
     }
@@ -136,9 +137,17 @@ impl Tree {
         ensures { result ≡ pure_tree self.now }
     {
         match &self.held {
-            Held::Leaf { form, .. } => form.is_plain(),
+            Held::Leaf { form, .. } => is_plain(*form),
             Held::Branch(node) => node.as_ref().is_pure,
         }
+    }
+
+    /// Whether no node in it breaks a rule: no other trees are made.
+    pub fn is_valid(&self) -> bool
+        ensures value { result ≡ valid_tree self.now }
+        ensures always { result ≡ true }
+    {
+        self.height() <= MAX_HEIGHT
     }
 
     /// The same tree. It takes no memory, and fails only where it has as many owners as can be counted.
@@ -207,9 +216,9 @@ impl Tree {
             form,
             span,
             parts,
-            size: kept.size.saturating_add(form.weight() as u64),
-            height: kept.height + form.star(),
-            is_pure: kept.is_pure && form.is_plain(),
+            size: kept.size.saturating_add(weight(form) as u64),
+            height: kept.height + star(form),
+            is_pure: kept.is_pure && is_plain(form),
         };
         match Rc::new(alloc, node) {
             Ok(node) => Ok(Tree {
@@ -224,7 +233,7 @@ impl Tree {
 pub fn height_over(form: Form, parts: &[Tree]) -> u32
     ensures { result ≡ star form + high (forest parts.now) }
 {
-    form.star() + together(parts).height
+    star(form) + together(parts).height
 }
 
 /// What trees side by side keep.

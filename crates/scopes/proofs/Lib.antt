@@ -1,3 +1,2 @@
-pub mod Kept
 mod Walks
 mod Worked

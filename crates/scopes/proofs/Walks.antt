@@ -8,17 +8,17 @@ use Rattle.c_tokens.specs.declared.span.Span.{Span}
 use Rattle.c_tokens.specs.declared.token.Word.{Word}
 use Rattle.scopes.specs.declared.event.Event.{Event}
 use Rattle.scopes.specs.declared.event.Event.TheVariants.{Enter, Leave, Must, Declare}
-use Rattle.scopes.specs.declared.table.WordClass.{WordClass}
-use Rattle.scopes.specs.declared.walk.WalkStop.{WalkStop}
-use Rattle.scopes.specs.declared.walk.WalkStop.TheVariants.{Clash, Memory}
-use Rattle.scopes.specs.Frames.{Frame, class_of, entered, left, declared, undone, steps_in}
-use Rattle.scopes.specs.declared.event.NameUse.{NameUse}
-use Rattle.scopes.specs.declared.event.Meaning.TheVariants as means
-use Rattle.scopes.specs.Meanings.{meaning, inside, declares, name_in}
+use Rattle.scope_tables.specs.declared.table.WordClass.{WordClass}
+use Rattle.scopes.specs.declared.event.WalkStop.{WalkStop}
+use Rattle.scopes.specs.declared.event.WalkStop.TheVariants.{Clash, Memory}
+use Rattle.scope_tables.specs.Frames.{Frame, class_of, entered, left, declared, undone, steps_in}
+use Rattle.scope_meanings.specs.declared.meaning.NameUse.{NameUse}
+use Rattle.scope_meanings.specs.declared.meaning.Meaning.TheVariants as means
+use Rattle.scope_meanings.specs.Meanings.{meaning, inside, declares, name_in}
 use Rattle.scopes.specs.Events.{scope, in_order, declared_as, words, words_by, words_of, by_meaning, each, events_of, name_checked, body, function}
 use Rattle.scopes.specs.Events as events
-use Rattle.scopes.specs.declared.event.Name.{Name}
-use Rattle.scopes.specs.declared.table.WordClass.TheVariants.{Value}
+use Rattle.scope_meanings.specs.declared.meaning.Name.{Name}
+use Rattle.scope_tables.specs.declared.table.WordClass.TheVariants.{Value}
 use Rattle.scopes.specs.Settling.{Scoped, Clashes, settled, is_same, Stops}
 use Rattle.scopes.specs.Steps.{undone_by, IsLater, Goes, IsUnderWay}
 

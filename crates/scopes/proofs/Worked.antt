@@ -21,9 +21,9 @@ use Rattle.c_forms.specs.declared.forms.ItemForm.TheVariants as item
 use Rattle.c_forms.specs.declared.forms.HoleForm.TheVariants as hole
 use Rattle.c_forms.specs.declared.forms.GroupForm.TheVariants as group
 use Rattle.c_forms.specs.Forests.{Plain, node}
-use Rattle.scopes.specs.declared.table.WordClass.TheVariants.{TypeName, Value}
+use Rattle.scope_tables.specs.declared.table.WordClass.TheVariants.{TypeName, Value}
 use Rattle.scopes.specs.declared.event.Event.TheVariants.{Enter, Leave, Must, Declare}
-use Rattle.scopes.specs.Frames.{Frame}
+use Rattle.scope_tables.specs.Frames.{Frame}
 use Rattle.scopes.specs.Events.{events}
 use Rattle.scopes.specs.Settling.{Settled, Scoped, Clashes, settled}
 

@@ -8,16 +8,16 @@ use Rattle.c_forms.specs.declared.forms.DeclaratorForm.TheVariants as declarator
 use Rattle.c_forms.specs.declared.forms.ParamsForm.TheVariants as params
 use Rattle.c_forms.specs.Forests.{Plain, Forest, empty, tree}
 use Rattle.c_forms.specs.Rules.{in_first, after_first, is_name}
-use Rattle.scopes.specs.declared.table.WordClass.{WordClass}
-use Rattle.scopes.specs.declared.table.WordClass.TheVariants.{Value}
+use Rattle.scope_tables.specs.declared.table.WordClass.{WordClass}
+use Rattle.scope_tables.specs.declared.table.WordClass.TheVariants.{Value}
 use Rattle.scopes.specs.declared.event.Event.{Event}
 use Rattle.scopes.specs.declared.event.Event.TheVariants.{Enter, Leave, Must, Declare}
-use Rattle.scopes.specs.declared.event.NameUse.{NameUse}
-use Rattle.scopes.specs.declared.event.NameUse.TheVariants as naming
-use Rattle.scopes.specs.declared.event.Meaning.{Meaning}
-use Rattle.scopes.specs.declared.event.Meaning.TheVariants as means
-use Rattle.scopes.specs.declared.event.Name.{Name}
-use Rattle.scopes.specs.Meanings.{meaning, inside, declares, has_type, name_in}
+use Rattle.scope_meanings.specs.declared.meaning.NameUse.{NameUse}
+use Rattle.scope_meanings.specs.declared.meaning.NameUse.TheVariants as naming
+use Rattle.scope_meanings.specs.declared.meaning.Meaning.{Meaning}
+use Rattle.scope_meanings.specs.declared.meaning.Meaning.TheVariants as means
+use Rattle.scope_meanings.specs.declared.meaning.Name.{Name}
+use Rattle.scope_meanings.specs.Meanings.{meaning, inside, declares, has_type, name_in}
 
 abbrev pub in_order : List (List Event) → List Event
 in_order [] = []

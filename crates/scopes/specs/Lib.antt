@@ -1,6 +1,3 @@
-pub mod Frames
-pub mod Log
-pub mod Meanings
 pub mod Events
 pub mod Settling
 pub mod Steps

@@ -2,13 +2,13 @@
 use Rattle.std.specs.Prelude.{◌≡◌, Bool, true, false, List, [], ◌∷◌, if◌then◌else◌}
 use Rattle.c_tokens.specs.declared.span.Span.{Span}
 use Rattle.c_tokens.specs.declared.token.Word.{Word}
-use Rattle.scopes.specs.declared.table.WordClass.{WordClass}
-use Rattle.scopes.specs.declared.table.WordClass.TheVariants.{TypeName, Value}
+use Rattle.scope_tables.specs.declared.table.WordClass.{WordClass}
+use Rattle.scope_tables.specs.declared.table.WordClass.TheVariants.{TypeName, Value}
 use Rattle.scopes.specs.declared.event.Event.{Event}
 use Rattle.scopes.specs.declared.event.Event.TheVariants.{Enter, Leave, Must, Declare}
-use Rattle.scopes.specs.declared.walk.WalkStop.{WalkStop}
-use Rattle.scopes.specs.declared.walk.WalkStop.TheVariants.{Clash, Memory}
-use Rattle.scopes.specs.Frames.{Frame, class_of, entered, left, declared}
+use Rattle.scopes.specs.declared.event.WalkStop.{WalkStop}
+use Rattle.scopes.specs.declared.event.WalkStop.TheVariants.{Clash, Memory}
+use Rattle.scope_tables.specs.Frames.{Frame, class_of, entered, left, declared}
 
 abbrev pub is_same : WordClass → WordClass → Bool
 is_same TypeName TypeName = true

@@ -1,8 +1,8 @@
 -- How far a walk has come, and how it is taken back.
 use Rattle.std.specs.Prelude.{◌≡◌, ℕ, zero, suc, ◌+◌, List, length, Result, OnOk, IfErr}
 use Rattle.scopes.specs.declared.event.Event.{Event}
-use Rattle.scopes.specs.declared.walk.WalkStop.{WalkStop}
-use Rattle.scopes.specs.Frames.{Frame, undone, steps_in}
+use Rattle.scopes.specs.declared.event.WalkStop.{WalkStop}
+use Rattle.scope_tables.specs.Frames.{Frame, undone, steps_in}
 use Rattle.scopes.specs.Settling.{Scoped, settled, Stops}
 
 abbrev pub undone_by : ℕ → List Frame → List Frame

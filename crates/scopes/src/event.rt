@@ -1,7 +1,7 @@
-//! What happens to scopes, and what the forms of nodes have to do with it.
+//! What happens to scopes, and why a walk through it stops.
 
-use crate::table::WordClass;
 use c_tokens::{Span, Word};
+use scope_tables::WordClass;
 
 /// What happens to the scopes (ISO/IEC 9899:1990, 6.1.2.1) at a place of a tree.
 #[derive(Clone, Copy, Debug, PartialEq, Eq)]
@@ -23,36 +23,15 @@ pub enum Event {
     },
 }
 
-/// What happens at the name of a declarator, or at an identifier.
-#[derive(Clone, Copy)]
-pub(crate) enum NameUse {
-    Nothing,
-    /// it must be a value
-    Checked,
-    /// it must be a value, and is then declared as one
-    CheckedAndDeclared,
-    /// it must be a value where told, and is declared after the declarator
-    Declared { class: WordClass, is_checked: bool },
-}
-
-/// What a form means to the scopes.
-#[derive(Clone, Copy)]
-pub(crate) enum Meaning {
-    /// nothing, and nor do the parts of the node
-    Nothing,
-    /// its word must have a class
-    Use { word: Word, wanted: WordClass },
-    Identifier(Word),
-    /// a scope of its own
-    Scope,
-    Function,
-    /// what its parts mean
-    Parts,
-}
-
-/// An identifier and its place.
-#[derive(Clone, Copy)]
-pub(crate) struct Name {
-    pub word: Word,
-    pub span: Span,
+/// Why a walk stopped.
+#[derive(Clone, Copy, Debug, PartialEq, Eq)]
+pub enum WalkStop {
+    /// A word has another class than the one that it must have where it stands.
+    Clash {
+        word: Word,
+        wanted: WordClass,
+        found: WordClass,
+        span: Span,
+    },
+    Memory,
 }

@@ -2,10 +2,11 @@
 #![tactic(auto)]
 
 mod event;
-mod meaning;
-mod table;
+mod params;
+mod scopes;
+mod step;
 mod walk;
 
-pub use event::Event;
-pub use table::{Scopes, WordClass};
-pub use walk::WalkStop;
+pub use event::{Event, WalkStop};
+pub use scope_tables::WordClass;
+pub use scopes::Scopes;

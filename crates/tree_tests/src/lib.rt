@@ -42,5 +42,3 @@ mod tall_trees;
 mod tests;
 #[cfg(test)]
 mod walk;
-#[cfg(test)]
-mod word_table;

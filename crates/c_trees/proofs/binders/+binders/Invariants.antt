@@ -1,7 +1,0 @@
-use Rattle.std.proofs.Common.{◌≡◌, ◌+◌, drop}
-use Rattle.pattern_language.specs.Patterns.{pattern_of}
-use Rattle.c_trees.specs.Bindings.{binders}
-use Rattle.c_trees.proofs.binders.+binders.Given as goal
-
-abbrev pub invariant-loop-element : goal.invariant-loop-element
-invariant-loop-element l = l.count + binders (pattern_of (drop l.element-index l.pattern)) ≡ binders (pattern_of l.pattern)

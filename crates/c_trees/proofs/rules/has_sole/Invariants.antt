@@ -1,7 +1,0 @@
-use Rattle.std.proofs.Common.{◌≡◌, drop}
-use Rattle.c_forms.specs.Forests.{forest}
-use Rattle.c_forms.specs.Rules.{has_sole}
-use Rattle.c_trees.proofs.rules.has_sole.Given as goal
-
-abbrev pub invariant-loop-one : goal.invariant-loop-one
-invariant-loop-one l = has_sole (forest (drop l.one-index l.all)) ≡ has_sole (forest l.all)

@@ -1,0 +1,7 @@
+use Rattle.std.proofs.Common.{◌≡◌, drop}
+use Rattle.c_forms.specs.Forests.{forest}
+use Rattle.c_forms.specs.Rules.{has_sole}
+use Rattle.checked_trees.proofs.rules.has_sole.Given as goal
+
+abbrev pub invariant-loop-one : goal.invariant-loop-one
+invariant-loop-one l = has_sole (forest (drop l.one-index l.all)) ≡ has_sole (forest l.all)

@@ -1,0 +1,8 @@
+//! The words that are declared in scopes that lie in one another.
+#![tactic(auto)]
+
+mod table;
+#[cfg(test)]
+mod tests;
+
+pub use table::{ScopeTable, WordClass};

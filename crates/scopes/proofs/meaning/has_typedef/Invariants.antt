@@ -1,7 +1,0 @@
-use Rattle.std.proofs.Common.{◌≡◌, drop}
-use Rattle.c_forms.specs.Forests.{forest}
-use Rattle.scopes.specs.Meanings.{has_typedef}
-use Rattle.scopes.proofs.meaning.has_typedef.Given as goal
-
-abbrev pub invariant-loop-spec : goal.invariant-loop-spec
-invariant-loop-spec l = has_typedef (forest (drop l.spec-index l.specs)) ≡ has_typedef (forest l.specs)

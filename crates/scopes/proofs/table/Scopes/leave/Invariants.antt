@@ -1,9 +1,0 @@
-use Rattle.std.proofs.Common.{◌≡◌, ◌<◌, length}
-use Rattle.scopes.specs.Frames.{left, steps_in}
-use Rattle.scopes.proofs.table.Scopes.leave.Given as goal
-
-abbrev pub invariant-loop : goal.invariant-loop
-invariant-loop l = record { deep : 1 < length l.self; same : left l.self ≡ left l.initial.self }
-
-abbrev pub decreases-loop : goal.decreases-loop
-decreases-loop l = steps_in l.self

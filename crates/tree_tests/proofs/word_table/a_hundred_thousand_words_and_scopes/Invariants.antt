@@ -1,8 +1,0 @@
-use Rattle.std.proofs.Common.{◌<◌, length}
-use Rattle.tree_tests.proofs.word_table.a_hundred_thousand_words_and_scopes.Given as goal
-
-abbrev pub invariant-loop-word : goal.invariant-loop-word
-invariant-loop-word g l = 0 < length l.scopes
-
-abbrev pub invariant-loop-word-2 : goal.invariant-loop-word-2
-invariant-loop-word-2 g l = 0 < length l.scopes
