@@ -1,2 +1,4 @@
 mod Frames
 mod Joined
+mod Laws
+mod Sorts
