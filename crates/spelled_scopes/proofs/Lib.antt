@@ -2,3 +2,5 @@ mod Frames
 mod Joined
 mod Laws
 mod Sorts
+mod Inside
+mod Quiet
