@@ -2,5 +2,8 @@ mod Frames
 mod Joined
 mod Laws
 mod Sorts
+mod Apart
+mod Seen
 mod Inside
 mod Quiet
+mod Expressions
