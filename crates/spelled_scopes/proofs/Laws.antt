@@ -75,6 +75,8 @@ pub record Names (t : Plain) (s m : State) : Type 0 where
 pub record Nears (t : Plain) (m : State) : Type 0 where
   pub words : parameters m.kept.near ≡ after_words (beside_name (forest (t ∷ []))) []
   pub bare : is_bare m.kept.near ≡ is_name (forest (t ∷ []))
+  pub called : Name
+  pub is_called : name_in (forest (t ∷ [])) ≡ Some called
 
 -- the parameters of a function, in their scope
 pub record Ends (events : List Event) (s m : State) : Type 0 where
@@ -179,7 +181,7 @@ lists_none s = λ u. still s s refl
 pub lists_on : (ts vs : List Plain) (s m z : State) → Lists ts s m → Lists vs m z → Lists (ts ++ vs) s z
 lists_on ts vs s m z p q = λ u. goes_on u ts vs s m z (p u) (q u)
 
-or_none : (a : Bool) → a ≡ (a || false)
+pub or_none : (a : Bool) → a ≡ (a || false)
 or_none true = refl
 or_none false = refl
 

@@ -7,3 +7,4 @@ mod Seen
 mod Inside
 mod Quiet
 mod Expressions
+mod Specifiers
