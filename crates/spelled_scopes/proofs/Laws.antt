@@ -32,6 +32,10 @@ Says u ts s m = s.kept ≡ nothing_kept → Goes u ts s m × (m.kept ≡ nothing
 abbrev pub Keeps : List Plain → State → State → Type 0
 Keeps ts s m = ((u : NameUse) → Goes u ts s m) × (m.kept ≡ s.kept)
 
+-- qualifiers
+abbrev pub Passes : List Plain → State → State → Type 0
+Passes ts s m = Keeps ts s m × (m.entries ≡ s.entries)
+
 -- whatever is begun
 abbrev pub Lists : List Plain → State → State → Type 0
 Lists ts s m = (u : NameUse) → Goes u ts s m
@@ -135,7 +139,7 @@ Law s.Literal t i j = (u : NameUse) → Says u (t ∷ []) i j
 Law s.TypeName t i j = i.kept ≡ nothing_kept → Lists (t ∷ []) i j
 Law s.Spec t i j = Specifies (t ∷ []) i j
 Law s.PlainSpec t i j = Specifies (t ∷ []) i j
-Law s.Qualifier t i j = Keeps (t ∷ []) i j
+Law s.Qualifier t i j = Passes (t ∷ []) i j
 Law s.Member t i j = (u : NameUse) → Says u (t ∷ []) i j
 Law s.Enumerator t i j = Lists (t ∷ []) i j
 Law s.Declarator t i j = Names t i j × Nears t j
@@ -174,6 +178,12 @@ keeps_none s = (λ u. still s s refl, refl)
 
 pub keeps_on : (ts vs : List Plain) (s m z : State) → Keeps ts s m → Keeps vs m z → Keeps (ts ++ vs) s z
 keeps_on ts vs s m z p q = (λ u. goes_on u ts vs s m z (p.0 u) (q.0 u), q.1 ∙ p.1)
+
+pub passes_none : (s : State) → Passes [] s s
+passes_none s = (keeps_none s, refl)
+
+pub passes_on : (ts vs : List Plain) (s m z : State) → Passes ts s m → Passes vs m z → Passes (ts ++ vs) s z
+passes_on ts vs s m z p q = (keeps_on ts vs s m z p.0 q.0, q.1 ∙ p.1)
 
 pub lists_none : (s : State) → Lists [] s s
 lists_none s = λ u. still s s refl

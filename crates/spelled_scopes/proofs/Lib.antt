@@ -8,3 +8,4 @@ mod Inside
 mod Quiet
 mod Expressions
 mod Specifiers
+mod Declarators

@@ -64,7 +64,7 @@ module _ (w : List Shape) (S : Spelling) where
 -- ---- specifiers of one token
 
 abbrev Spec : SpecForm → Span → List Plain → State → State → Type 0
-Spec f sp ts i j = Specifies (node (form.Spec f) sp ts ∷ []) i j × (is_qualifier f ≡ true → j.kept ≡ i.kept)
+Spec f sp ts i j = Specifies (node (form.Spec f) sp ts ∷ []) i j × (is_qualifier f ≡ true → (j.kept ≡ i.kept) × (j.entries ≡ i.entries))
 
 ended : (f : SpecForm) (sp : Span) (ts : List Plain) (i m : State) (j k : Spot) → ts ≡ [] → k ≡ j → k.state ≡ m → Spec f sp [] i m → Spec f sp ts i j.state
 ended f sp ts i m j k e q r l = subst (λ ts. Spec f sp ts i j.state) (sym e) (subst (λ m. Spec f sp [] i m) (sym r ∙ state_at k j q) l)
@@ -131,7 +131,7 @@ module _ (w : List Shape) (S : Spelling) (lawful : Lawful S) (own : Sort) where
   pub spec_says : (f : SpecForm) (sp : Span) (ts : List Plain) (i j : Spot) → Matches S w own (form.Spec f) Usual (pieces (form.Spec f)) ts i j → Spec f sp ts i.state j.state
   spec_says (spec.Storage c) sp ts i j m = storage_says c sp ts i j m
   spec_says (spec.Qualifier q) sp ts i j m = ended (spec.Qualifier q) sp ts i.state i.state j (step i) m.1.0 m.1.1 refl
-      (record { goes = λ u. record { scoped = refl; declared = refl; aside = refl }; has = or_none i.state.kept.has_type; typedef = or_none i.state.kept.is_typedef; name = refl }, λ e. refl)
+      (record { goes = λ u. record { scoped = refl; declared = refl; aside = refl }; has = or_none i.state.kept.has_type; typedef = or_none i.state.kept.is_typedef; name = refl }, λ e. (refl, refl))
   spec_says (spec.Basic b) sp ts i j m = ended (spec.Basic b) sp ts i.state (happens event.Typed i.state) j (turned (happens event.Typed) (step i)) m.1.1.0 m.1.1.1 refl
       (record { goes = λ u. record { scoped = refl; declared = refl; aside = refl }; has = or_true i.state.kept.has_type; typedef = or_none i.state.kept.is_typedef; name = refl }, λ e. absurd (cc e))
   spec_says (spec.Typedef word) sp ts i j m = name_says word sp ts i j m
