@@ -9,3 +9,4 @@ mod Quiet
 mod Expressions
 mod Specifiers
 mod Declarators
+mod Parameters
