@@ -10,3 +10,4 @@ mod Expressions
 mod Specifiers
 mod Declarators
 mod Parameters
+mod Declarations
