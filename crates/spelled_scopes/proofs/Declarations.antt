@@ -42,10 +42,10 @@ use Rattle.spelled_scopes.proofs.Specifiers.{keeps_list}
 
 -- ---- what is declared
 
-abbrev number_only : Option Name → Option ℕ
+abbrev pub number_only : Option Name → Option ℕ
 number_only name = number_or name None
 
-declared_frames : (k : WordClass) (name : Option Name) (s z : State) → z.entries ≡ States.declared (entry_as k) (number_only name) s.entries → z.aside ≡ s.aside → Runs (declared k name) (declared k name) s z
+pub declared_frames : (k : WordClass) (name : Option Name) (s z : State) → z.entries ≡ States.declared (entry_as k) (number_only name) s.entries → z.aside ≡ s.aside → Runs (declared k name) (declared k name) s z
 declared_frames k (Some name) s z e a = record { scoped = ap Scoped (sym (entry_frames k name.word.0 s.entries)) ∙ ap (λ es. Scoped (frames es)) (sym e); declared = e; aside = a }
 declared_frames k None s z e a = record { scoped = ap (λ es. Scoped (frames es)) (sym e); declared = e; aside = a }
 
@@ -59,15 +59,15 @@ module _ (w : List Shape) (S : Spelling) (lawful : Lawful S) where
     pub value : t ≡ node the_list span trees
     pub specifies : Specifies trees s m
 
-  pub specs_say : (due : Sort) (before : Before) (t : Plain) (i j : Spot) → ((t : Plain) (i j : Spot) → S due 0 t i j → Specifies (t ∷ []) i.state j.state) → IsList (IsGroup All due (S due 0) before w) t i j → Specified t i.state j.state
-  specs_say due before t i j each l = record { trees = l.0; span = spanned i.place j.place; value = l.1.0; specifies = grouped Specifies specifies_none specifies_on w (S due 0) each All due before l.0 i j l.1.1 }
+  pub specs_say : (r : Repetition) (due : Sort) (before : Before) (t : Plain) (i j : Spot) → ((t : Plain) (i j : Spot) → S due 0 t i j → Specifies (t ∷ []) i.state j.state) → IsList (IsGroup r due (S due 0) before w) t i j → Specified t i.state j.state
+  specs_say r due before t i j each l = record { trees = l.0; span = spanned i.place j.place; value = l.1.0; specifies = grouped Specifies specifies_none specifies_on w (S due 0) each r due before l.0 i j l.1.1 }
 
   members_list : (r : Repetition) (before : Before) (t : Plain) (i j : Spot) → IsList (IsGroup r s.MemberDeclarator (S s.MemberDeclarator 0) before w) t i j → Members (t ∷ []) i.state j.state
   members_list r before t i j l = subst (λ t. Members (t ∷ []) i.state j.state) (sym l.1.0) (λ b f.
       let g = grouped Members members_none members_on w (S s.MemberDeclarator 0) (lawful s.MemberDeclarator 0) r s.MemberDeclarator before l.0 i j l.1.1 b f in
       (listed (checked_if b) (spanned i.place j.place) l.0 i.state j.state g.0, g.1))
 
-  inits_list : (r : Repetition) (before : Before) (t : Plain) (i j : Spot) → IsList (IsGroup r s.InitDeclarator (S s.InitDeclarator 0) before w) t i j → Inits (t ∷ []) i.state j.state
+  pub inits_list : (r : Repetition) (before : Before) (t : Plain) (i j : Spot) → IsList (IsGroup r s.InitDeclarator (S s.InitDeclarator 0) before w) t i j → Inits (t ∷ []) i.state j.state
   inits_list r before t i j l = subst (λ t. Inits (t ∷ []) i.state j.state) (sym l.1.0) (λ c b f k.
       let g = grouped Inits inits_none inits_on w (S s.InitDeclarator 0) (lawful s.InitDeclarator 0) r s.InitDeclarator before l.0 i j l.1.1 c b f k in
       (listed (naming.Declared c b) (spanned i.place j.place) l.0 i.state j.state g.0, g.1))
@@ -77,12 +77,12 @@ checks : (b : Bool) (t : Plain) (s m : State) → Names t s m → (b ≡ true �
 checks true t s m n f = n.asked (f refl)
 checks false t s m n f = n.silent
 
-no_type : (a b : Bool) → a ≡ (false || b) → not b ≡ true → a ≡ false
+pub no_type : (a b : Bool) → a ≡ (false || b) → not b ≡ true → a ≡ false
 no_type a true e n = absurd (cc n)
 no_type a false e n = e
 
 -- and it is declared after it
-declaring : (c : WordClass) (b : Bool) (t : Plain) (s m z : State) → Names t s m → (b ≡ true → s.kept.has_type ≡ false)
+pub declaring : (c : WordClass) (b : Bool) (t : Plain) (s m z : State) → Names t s m → (b ≡ true → s.kept.has_type ≡ false)
     → z.entries ≡ States.declared (entry_as c) (number_only (name_in (forest (t ∷ [])))) m.entries → z.aside ≡ m.aside → Goes (naming.Declared c b) (t ∷ []) s z
 declaring c b t s m z n f e a =
     let name : Option Name = name_in (forest (t ∷ [])) in
@@ -91,10 +91,7 @@ declaring c b t s m z n f e a =
 module _ (w : List Shape) (S : Spelling) (lawful : Lawful S) (own : Sort) where
   -- ---- what is put aside as a whole
 
-  abbrev Valued : Form → Span → List Plain → State → State → Type 0
-  Valued f sp ts i j = Keeps (node f sp ts ∷ []) i j
-
-  width_says : (sp : Span) (ts : List Plain) (i j : Spot) → Matches S w own (form.Group group.Width) Usual (pieces (form.Group group.Width)) ts i j → Keeps (node (form.Group group.Width) sp ts ∷ []) i.state j.state
+  pub width_says : (sp : Span) (ts : List Plain) (i j : Spot) → Matches S w own (form.Group group.Width) Usual (pieces (form.Group group.Width)) ts i j → Keeps (node (form.Group group.Width) sp ts ∷ []) i.state j.state
   width_says sp ts i j m =
       let A = m.1.1 in
       let o : Spot = turned (happens event.Aside) (step i) in
@@ -105,7 +102,7 @@ module _ (w : List Shape) (S : Spelling) (lawful : Lawful S) (own : Sort) where
       subst (λ z. Keeps (node (form.Group group.Width) sp ts ∷ []) i.state z) end
       (λ u. over_parts (events_in naming.Nothing ts) (words_in naming.Nothing ts) i.state (happens event.Resume A.place.state) (subst (λ ts. Goes naming.Nothing ts i.state (happens event.Resume A.place.state)) (sym tree) p.0), p.1)
 
-  enumerator_value_says : (sp : Span) (ts : List Plain) (i j : Spot) → Matches S w own (form.Group group.EnumeratorValue) Usual (pieces (form.Group group.EnumeratorValue)) ts i j → Keeps (node (form.Group group.EnumeratorValue) sp ts ∷ []) i.state j.state
+  pub enumerator_value_says : (sp : Span) (ts : List Plain) (i j : Spot) → Matches S w own (form.Group group.EnumeratorValue) Usual (pieces (form.Group group.EnumeratorValue)) ts i j → Keeps (node (form.Group group.EnumeratorValue) sp ts ∷ []) i.state j.state
   enumerator_value_says sp ts i j m =
       let A = m.1.1 in
       let o : Spot = turned (happens event.Aside) (step i) in
@@ -116,7 +113,7 @@ module _ (w : List Shape) (S : Spelling) (lawful : Lawful S) (own : Sort) where
       subst (λ z. Keeps (node (form.Group group.EnumeratorValue) sp ts ∷ []) i.state z) end
       (λ u. over_parts (events_in naming.Nothing ts) (words_in naming.Nothing ts) i.state (happens event.Resume A.place.state) (subst (λ ts. Goes naming.Nothing ts i.state (happens event.Resume A.place.state)) (sym tree) p.0), p.1)
 
-  initializer_says : (sp : Span) (ts : List Plain) (i j : Spot) → Matches S w own (form.Group group.Initializer) Usual (pieces (form.Group group.Initializer)) ts i j → Keeps (node (form.Group group.Initializer) sp ts ∷ []) i.state j.state
+  pub initializer_says : (sp : Span) (ts : List Plain) (i j : Spot) → Matches S w own (form.Group group.Initializer) Usual (pieces (form.Group group.Initializer)) ts i j → Keeps (node (form.Group group.Initializer) sp ts ∷ []) i.state j.state
   initializer_says sp ts i j m =
       let A = m.1.1 in
       let o : Spot = turned (happens event.Aside) (step i) in
@@ -131,7 +128,7 @@ module _ (w : List Shape) (S : Spelling) (lawful : Lawful S) (own : Sort) where
 
   pub type_name_says : (sp : Span) (ts : List Plain) (i j : Spot) → Matches S w own form.TypeName Usual (pieces form.TypeName) ts i j → Lists (node form.TypeName sp ts ∷ []) i.state j.state
   type_name_says sp ts i j m = λ u.
-      let a = specs_say w S lawful s.PlainSpec Usual m.first i m.place (lawful s.PlainSpec 0) m.is_first in
+      let a = specs_say w S lawful All s.PlainSpec Usual m.first i m.place (lawful s.PlainSpec 0) m.is_first in
       let q : Plain = node the_list a.span a.trees in
       let g : Goes naming.Nothing (q ∷ []) i.state m.place.state = listed naming.Nothing a.span a.trees i.state m.place.state (a.specifies.goes naming.Nothing) in
       let B = m.are_others in
@@ -155,7 +152,7 @@ module _ (w : List Shape) (S : Spelling) (lawful : Lawful S) (own : Sort) where
 
   pub member_says : (sp : Span) (ts : List Plain) (i j : Spot) → Matches S w own form.Member Usual (pieces form.Member) ts i j → (u : NameUse) → Says u (node form.Member sp ts ∷ []) i.state j.state
   member_says sp ts i j m = λ u f.
-      let a = specs_say w S lawful s.PlainSpec Usual m.first i m.place (lawful s.PlainSpec 0) m.is_first in
+      let a = specs_say w S lawful All s.PlainSpec Usual m.first i m.place (lawful s.PlainSpec 0) m.is_first in
       let q : Plain = node the_list a.span a.trees in
       let b : Bool = not (has_type (forest a.trees)) in
       let v : NameUse = checked_if b in

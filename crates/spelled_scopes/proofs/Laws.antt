@@ -127,6 +127,12 @@ pub record Listed (t : Plain) (s m : State) : Type 0 where
   pub has : m.kept.has_type ≡ s.kept.has_type
   pub is_value : s.kept.has_type ≡ false → is_type s.entries word.0 ≡ false
 
+-- an item
+pub record Finishes (t : Plain) (s m : State) : Type 0 where
+  pub scoped : (u : NameUse) → settled (events_in u (t ∷ [])) (frames s.entries) ≡ Scoped (frames m.entries)
+  pub aside : m.aside ≡ s.aside
+  pub free : m.kept ≡ nothing_kept
+
 -- ---- each sort
 
 abbrev pub Law : Sort → Plain → State → State → Type 0
@@ -152,9 +158,9 @@ Law s.Param t i j = (u : NameUse) → Says u (t ∷ []) i j
 Law s.Init t i j = (u : NameUse) → Says u (t ∷ []) i j
 Law s.Decl t i j = (u : NameUse) → Says u (t ∷ []) i j
 Law s.Stmt t i j = (u : NameUse) → Says u (t ∷ []) i j
-Law s.Block t i j = (u : NameUse) → Says u (t ∷ []) i j
+Law s.Block t i j = ((u : NameUse) → Says u (t ∷ []) i j) × (beside_name (forest (t ∷ [])) ≡ [])
 Law s.BlockItem t i j = (u : NameUse) → Says u (t ∷ []) i j
-Law s.Item t i j = (u : NameUse) → Says u (t ∷ []) i j
+Law s.Item t i j = i.kept ≡ nothing_kept → Finishes t i j
 Law s.InitDeclarator t i j = Inits (t ∷ []) i j
 Law s.Initializer t i j = Keeps (t ∷ []) i j
 Law s.MemberDeclarator t i j = Members (t ∷ []) i j

@@ -11,3 +11,4 @@ mod Specifiers
 mod Declarators
 mod Parameters
 mod Declarations
+mod Declared

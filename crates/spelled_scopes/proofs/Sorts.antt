@@ -13,14 +13,14 @@ use Rattle.c_forms.specs.declared.forms.ItemForm.TheVariants as item
 use Rattle.c_forms.specs.declared.forms.TemplateForm.TheVariants as template
 use Rattle.c_forms.specs.declared.forms.GroupForm.{GroupForm}
 use Rattle.c_forms.specs.declared.forms.GroupForm.TheVariants as group
-use Rattle.c_forms.specs.Forests.{Plain}
+use Rattle.c_forms.specs.Forests.{Plain, forest}
 use Rattle.c_forms.specs.Measures.{is_plain}
 use Rattle.c_forms.specs.Places.{stands}
 use Rattle.c_reader.specs.States.{State, nothing_kept}
 use Rattle.c_syntax.specs.Spells.{may_be}
 use Rattle.scope_meanings.specs.declared.meaning.NameUse.{NameUse}
-use Rattle.spelled_scopes.specs.Meant.{Goes}
-use Rattle.spelled_scopes.proofs.Laws.{Says, Keeps, Lists, Specifies, Members, Inits, Names, Nears, Parameters, Law}
+use Rattle.scopes.specs.Events.{beside_name}
+use Rattle.spelled_scopes.proofs.Laws.{Says, Keeps, Lists, Specifies, Members, Inits, Names, Nears, Parameters, Finishes, Law}
 
 abbrev pub is_qualifier : SpecForm → Bool
 is_qualifier (spec.Qualifier q) = true
@@ -53,8 +53,8 @@ FormLaw due (form.Params f) t i j = Parameters t i j
 FormLaw due form.Param t i j = (u : NameUse) → Says u (t ∷ []) i j
 FormLaw due (form.Init f) t i j = (u : NameUse) → Says u (t ∷ []) i j
 FormLaw due form.Decl t i j = (u : NameUse) → Says u (t ∷ []) i j
-FormLaw due (form.Stmt f) t i j = (u : NameUse) → Says u (t ∷ []) i j
-FormLaw due (form.Item f) t i j = Starts f i → (u : NameUse) → Goes u (t ∷ []) i j × (j.kept ≡ nothing_kept)
+FormLaw due (form.Stmt f) t i j = ((u : NameUse) → Says u (t ∷ []) i j) × (beside_name (forest (t ∷ [])) ≡ [])
+FormLaw due (form.Item f) t i j = Starts f i → Finishes t i j
 FormLaw due (form.Group g) t i j = GroupLaw g t i j
 FormLaw due _ t i j = Unit {0}
 
@@ -214,7 +214,7 @@ at_decl (form.Group group.List) t i j p e l = absurd (cc e)
 at_decl f t i j p e l = absurd (cc (e, p))
 
 pub at_stmt : (f : Form) (t : Plain) (i j : State) → is_plain f ≡ true → stands f s.Stmt ≡ true → FormLaw s.Stmt f t i j → Law s.Stmt t i j
-at_stmt (form.Stmt f) t i j p e l = l
+at_stmt (form.Stmt f) t i j p e l = l.0
 at_stmt (form.Exp (exp.Int w)) t i j p e l = absurd (cc e)
 at_stmt (form.Spec (spec.Storage c)) t i j p e l = absurd (cc e)
 at_stmt (form.Spec (spec.Qualifier q)) t i j p e l = absurd (cc e)
