@@ -12,3 +12,6 @@ mod Declarators
 mod Parameters
 mod Declarations
 mod Declared
+mod Words
+mod Functions
+mod Nodes
