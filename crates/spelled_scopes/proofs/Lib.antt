@@ -15,3 +15,5 @@ mod Declared
 mod Words
 mod Functions
 mod Nodes
+mod Spelled
+mod Scoping
