@@ -17,3 +17,4 @@ mod Functions
 mod Nodes
 mod Spelled
 mod Scoping
+mod Spans
