@@ -112,8 +112,7 @@ in_params params.Ids = naming.Checked
 in_params _ = naming.Nothing
 
 abbrev pub in_param : Bool → NameUse
-in_param true = naming.Declared Value false
-in_param false = naming.CheckedAndDeclared
+in_param is_typed = naming.Declared Value (not is_typed)
 
 -- What happens at the names in the parts of a node, by its own use. The first part of a declaration holds its specifiers.
 abbrev pub inside : Form → NameUse → Forest → NameUse

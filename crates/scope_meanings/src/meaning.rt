@@ -169,17 +169,13 @@ fn at_name(used: NameUse) -> NameUse
     }
 }
 
-/// What happens at the name of a parameter.
+/// What happens at the name of a parameter. Its scope begins after its declarator (6.1.2.1).
 fn in_param(is_typed: bool) -> NameUse
     ensures { result ≡ meanings.in_param is_typed }
 {
-    if is_typed {
-        NameUse::Declared {
-            class: WordClass::Value,
-            is_checked: false,
-        }
-    } else {
-        NameUse::CheckedAndDeclared
+    NameUse::Declared {
+        class: WordClass::Value,
+        is_checked: !is_typed,
     }
 }
 

@@ -223,9 +223,9 @@ abstract_function : events (declaration (int ∷ []) (one (function_of (named f)
     ≡ Enter ∷ Enter ∷ Must T TypeName place ∷ Leave ∷ Leave ∷ Declare f Value ∷ []
 abstract_function = refl
 
--- `int f(const T);`
+-- `int f(const a[a]);`
 param_without_type : events (declaration (int ∷ []) (one (function_of (named f) (typed (param (const ∷ []) (array (named a) (name a ∷ [])) ∷ []))) ∷ []))
-    ≡ Enter ∷ Must a Value place ∷ Declare a Value ∷ Must a Value place ∷ Leave ∷ Declare f Value ∷ []
+    ≡ Enter ∷ Must a Value place ∷ Must a Value place ∷ Declare a Value ∷ Leave ∷ Declare f Value ∷ []
 param_without_type = refl
 
 -- a placeholder for the name
