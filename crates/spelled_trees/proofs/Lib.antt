@@ -1,0 +1,4 @@
+pub mod Parts
+pub mod Fitted
+pub mod Ways
+pub mod Low

@@ -1,0 +1,2 @@
+-- Placeholder.
+use Rattle.std.specs.Prelude.{ℕ}
