@@ -2,3 +2,5 @@ pub mod Parts
 pub mod Fitted
 pub mod Ways
 pub mod Low
+pub mod Walks
+pub mod Rows
