@@ -4,3 +4,4 @@ pub mod Ways
 pub mod Low
 pub mod Walks
 pub mod Rows
+pub mod Walked

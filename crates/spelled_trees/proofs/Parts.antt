@@ -1,5 +1,5 @@
 -- What holds of each element of a group, and how many there are.
-use Rattle.std.proofs.Common.{◌≡◌, ◌⊎◌, inl, inr, refl, ap, ℕ, zero, suc, ◌+◌, ◌≤◌, Bool, true, false, ◌&&◌, List, [], ◌∷◌, ◌++◌, Option, Some, None, nat_lt, arith}
+use Rattle.std.proofs.Common.{◌≡◌, ◌⊎◌, inl, inr, refl, ap, sym, ℕ, zero, suc, ◌+◌, ◌≤◌, Bool, true, false, ◌&&◌, List, [], ◌∷◌, ◌++◌, Option, Some, None, nat_lt, arith}
 use Rattle.c_tokens.specs.declared.token.Shape.{Shape}
 use Rattle.c_tokens.specs.declared.class.Class.{Class}
 use Rattle.c_forms.specs.declared.pieces.Sort.{Sort}
@@ -113,3 +113,37 @@ module _ (w : List Shape) (one : Plain → Spot → Spot → Type 0) where
   numbered (Spliced c least) due before ts i j l (inl A) = numbered_none (Spliced c least) ts A.0 A.1.0
   numbered (Spliced c least) due before ts i j l (inr E) = numbered_some (Spliced c least) c E.0 ts i j l refl E.1
   numbered (Ended c e) due before ts i j l G = numbered_some (Ended c e) (Some c) G.0 ts i j refl refl G.1
+
+-- What is kept from one element to the next, where a separator changes nothing, holds of a group.
+module _ (w : List Shape) (one : Plain → Spot → Spot → Type 0) (R : List Plain → Spot → Spot → Type 0) (nil : (i : Spot) → R [] i i)
+    (snoc : (ts : List Plain) (t : Plain) (i j k m : Spot) → R ts i j → k.state ≡ j.state → one t k m → R (ts ++ (t ∷ [])) i m) where
+  separated_state : (c : Option Class) (i j : Spot) → Separated w c i j → j.state ≡ i.state
+  separated_state None i j S = ap (λ (k : Spot). k.state) (sym S)
+  separated_state (Some c) i j S = ap (λ (k : Spot). k.state) (sym S.1)
+
+  pub chain_fold : (c : Option Class) (n : ℕ) (ts : List Plain) (i j : Spot) → Chain one w c n ts i j → R ts i j
+  chain_fold c zero ts i j C = rw C.1.0 (snoc [] C.0 i i i j (nil i) refl C.1.1)
+  chain_fold c (suc n) ts i j C = rw C.value (snoc C.before C.last i C.place C.next j (chain_fold c n C.before i C.place C.first) (separated_state c C.place C.next C.between) C.second)
+
+  once_fold : (ts : List Plain) (i j : Spot) → Once one ts i j → R ts i j
+  once_fold ts i j O = rw O.1.0 (snoc [] O.0 i i i j (nil i) refl O.1.1)
+
+  none_fold : (ts : List Plain) (i j : Spot) → Absent ts i j → R ts i j
+  none_fold ts i j A = rw (A.0, sym A.1) (nil i)
+
+  any_fold : (least : ℕ) (c : Option Class) (ts : List Plain) (i j : Spot) → AnyNumber least one w c ts i j → R ts i j
+  any_fold least c ts i j (inl A) = none_fold ts i j A.1
+  any_fold least c ts i j (inr E) = chain_fold c E.0 ts i j E.1
+
+  pub group_fold : (r : Repetition) (due : Sort) (before : Before) (ts : List Plain) (i j : Spot) → IsGroup r due one before w ts i j → R ts i j
+  group_fold Optional due before ts i j (inl A) = none_fold ts i j A
+  group_fold Optional due before ts i j (inr O) = once_fold ts i j O
+  group_fold Greedy due before ts i j (inl A) = none_fold ts i j A.1
+  group_fold Greedy due before ts i j (inr O) = once_fold ts i j O
+  group_fold Due due before ts i j (inl A) = none_fold ts i j A.1
+  group_fold Due due before ts i j (inr O) = once_fold ts i j O
+  group_fold All due before ts i j G = chain_fold None G.0.0 ts i j G.0.1
+  group_fold Any due before ts i j G = any_fold 0 None ts i j G.0
+  group_fold (Many c least) due before ts i j G = any_fold least c ts i j G
+  group_fold (Spliced c least) due before ts i j G = any_fold least c ts i j G
+  group_fold (Ended c e) due before ts i j G = chain_fold (Some c) G.0 ts i j G.1
