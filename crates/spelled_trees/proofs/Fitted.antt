@@ -106,7 +106,7 @@ abbrev pub is_inner : Sort → Bool
 is_inner s.InnerDeclarator = true
 is_inner due = false
 
-inside_is : (own due : Sort) → inside own due ≡ (if is_inner due then inside own s.InnerDeclarator else due)
+pub inside_is : (own due : Sort) → inside own due ≡ (if is_inner due then inside own s.InnerDeclarator else due)
 inside_is s.MemberName s.InnerDeclarator = refl
 inside_is s.MemberName due = refl
 inside_is own s.InnerDeclarator = refl

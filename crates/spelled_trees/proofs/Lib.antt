@@ -5,3 +5,6 @@ pub mod Low
 pub mod Walks
 pub mod Rows
 pub mod Walked
+pub mod Specifiers
+pub mod Declarators
+pub mod Named
