@@ -24,7 +24,7 @@ use Rattle.c_syntax.specs.Spells.{Spelling, IsGroup, Matches, may_list}
 use Rattle.spelled_trees.specs.Effects.{needs, Meets, Keeps, Done, does, Leaves, is_plain_sort, IsNew}
 use Rattle.spelled_trees.specs.Told.{is_named, is_function, is_bare_name, Told}
 use Rattle.spelled_trees.proofs.Parts.{both, group_fold}
-use Rattle.spelled_trees.proofs.Fitted.{inside_is, is_inner, inside_stands}
+use Rattle.spelled_trees.proofs.Fitted.{at_sort, inside_stands}
 
 -- ---- what stands next to a name
 
@@ -48,7 +48,7 @@ with_function ws Bare = refl
 with_function ws (Parameters vs) = refl
 with_function ws Other = refl
 
-or_false : (a : Bool) → (a || false) ≡ a
+pub or_false : (a : Bool) → (a || false) ≡ a
 or_false true = refl
 or_false false = refl
 
@@ -92,7 +92,7 @@ names_listed list part sp xs e = rw e (or_false (is_named part))
 function_listed : (list part : Plain) (sp : Span) (xs : List Plain) → list ≡ node the_list sp xs → has_function (forest (part ∷ (list ∷ []))) ≡ is_function part
 function_listed list part sp xs e = rw e (or_false (is_function part))
 
-two : {ts us vs : List Plain} {a b : Plain} → ts ≡ a ∷ us → us ≡ b ∷ vs → vs ≡ [] → ts ≡ a ∷ (b ∷ [])
+pub two : {ts us vs : List Plain} {a b : Plain} → ts ≡ a ∷ us → us ≡ b ∷ vs → vs ≡ [] → ts ≡ a ∷ (b ∷ [])
 two {a = a} {b = b} e f g = e ∙ ap (λ l. a ∷ l) (f ∙ ap (λ l. b ∷ l) g)
 
 bare_of : (f : Form) (sp : Span) (ps rest : Forest) → is_name (tree f sp ps rest) ≡ is_name (tree f sp empty empty)
@@ -113,10 +113,6 @@ pub record Within (P : Spelling) (own : Sort) (ts : List Plain) (i j : Spot) : T
 
 module _ (w : List Shape) (P : Spelling) (T : (due : Sort) (least : ℕ) (t : Plain) (i j : Spot) → P due least t i j → is_plain_sort due ≡ true → Meets (needs due) i.state.kept → Told w due t i j)
     (S : (due : Sort) (least : ℕ) (t : Plain) (i j : Spot) → P due least t i j → stands t.form due ≡ true) where
-  -- where no declarator inside one is due
-  pub at_sort : (own due : Sort) (least : ℕ) (t : Plain) (i j : Spot) → is_inner due ≡ false → P (inside own due) least t i j → P due least t i j
-  at_sort own due least t i j e p = subst (λ x. P x least t i j) (inside_is own due ∙ ap (λ b. if b then inside own s.InnerDeclarator else due) e) p
-
   -- elements that leave all as it was
   pub kept_in : (due : Sort) (least : ℕ) → ((k : Kept) → Meets (needs due) k) → is_plain_sort due ≡ true → does due ≡ Keeps → (r : Repetition) (before : Before) (ts : List Plain) (i j : Spot) → IsGroup r due (P due least) before w ts i j → j.state.kept ≡ i.state.kept
   kept_in due least n p d r before ts i j G = group_fold w (P due least) (λ ts i j. j.state.kept ≡ i.state.kept) (λ i. refl)
@@ -167,7 +163,7 @@ module _ (w : List Shape) (P : Spelling) (T : (due : Sort) (least : ℕ) (t : Pl
 
   pub function : (own : Sort) → serves s.Declarator own ≡ true → (before : Before) (ts : List Plain) (i j : Spot) → Matches P w own (form.Declarator declarator.FunctionOf) before (pieces (form.Declarator declarator.FunctionOf)) ts i j → Applied own ts i j
   function own serve before ts i j M = let G = M.are_others.1.1.1 in let e = two M.value G.value G.are_others.1.1.0 in let q = G.are_others.1.1.1 in
-      let start = turned (happens event.Enter) (turned (happens event.Aside) (step M.place)) in let p = at_sort own s.Params 0 G.first start G.place refl G.is_first in
+      let start = turned (happens event.Enter) (turned (happens event.Aside) (step M.place)) in let p = at_sort P own s.Params 0 G.first start G.place refl G.is_first in
       let R = T s.Params 0 G.first start G.place p refl (record { untyped = refl; unsettled = refl; nameless = refl }) in let k = ap top R.leaves.aside in let c = S s.Params 0 G.first start G.place p in
       let d = inside_stands own s.InnerDeclarator 2 [] M.first.form (both (serves s.Declarator own) true serve refl) (S (inside own s.InnerDeclarator) 2 M.first i M.place M.is_first) in record {
       within = record {

@@ -1,5 +1,5 @@
 -- What spells the pieces of a row fits them.
-use Rattle.std.proofs.Common.{◌≡◌, ◌⊎◌, inl, inr, refl, ap, sym, ◌∙◌, ℕ, zero, suc, ◌+◌, Bool, true, false, not, ◌&&◌, ◌||◌, if◌then◌else◌, List, [], ◌∷◌, ◌++◌, Option, Some, None, nat_lt}
+use Rattle.std.proofs.Common.{◌≡◌, ◌⊎◌, inl, inr, refl, ap, sym, ◌∙◌, subst, ℕ, zero, suc, ◌+◌, Bool, true, false, not, ◌&&◌, ◌||◌, if◌then◌else◌, List, [], ◌∷◌, ◌++◌, Option, Some, None, nat_lt}
 use Rattle.c_tokens.specs.declared.token.Shape.{Shape}
 use Rattle.c_forms.specs.declared.pieces.Sort.{Sort}
 use Rattle.c_forms.specs.declared.pieces.Sort.TheVariants as s
@@ -111,6 +111,10 @@ inside_is s.MemberName s.InnerDeclarator = refl
 inside_is s.MemberName due = refl
 inside_is own s.InnerDeclarator = refl
 inside_is own due = refl
+
+-- where no declarator inside one is due, the sort is what the piece says
+pub at_sort : (P : Spelling) (own due : Sort) (least : ℕ) (t : Plain) (i j : Spot) → is_inner due ≡ false → P (inside own due) least t i j → P due least t i j
+at_sort P own due least t i j e p = subst (λ x. P x least t i j) (inside_is own due ∙ ap (λ b. if b then inside own s.InnerDeclarator else due) e) p
 
 pub inside_stands : (own due : Sort) (least : ℕ) (ps : List Piece) (f : Form) → is_fine own (One due least ∷ ps) ≡ true → stands f (inside own due) ≡ true → stands f due ≡ true
 inside_stands own s.InnerDeclarator least ps f h k = occupies_inner own (occupant_of f) (left_of (serves s.Declarator own) (is_fine own ps) h) k

@@ -3,8 +3,12 @@ pub mod Fitted
 pub mod Ways
 pub mod Low
 pub mod Walks
+pub mod Suits
 pub mod Rows
 pub mod Walked
 pub mod Specifiers
 pub mod Declarators
 pub mod Named
+pub mod Statements
+pub mod Endings
+pub mod Blocks

@@ -31,10 +31,11 @@ use Rattle.c_syntax.specs.Spells.{may_be}
 use Rattle.spelled_trees.specs.Effects.{needs, is_plain_sort}
 use Rattle.spelled_trees.proofs.Parts.{both, left_of, right_of}
 use Rattle.spelled_trees.proofs.Fitted.{is_fine}
+use Rattle.spelled_trees.proofs.Suits.{is_form, suits, begins_anew}
 use Rattle.spelled_trees.proofs.Walks.{starts_as, walks}
 
 abbrev checked : Bool → Sort → Form → Bool
-checked true own f = is_fine own (pieces f) && walks own f (starts_as (needs own)) [] (pieces f)
+checked true own f = is_fine own (pieces f) && walks own f (starts_as (needs own)) [] (pieces f) && (is_form f && (suits own f && begins_anew own f))
 checked false own f = true
 
 abbrev is_right : Sort → Form → Bool
@@ -208,10 +209,17 @@ met false own f h k = absurd (cc h)
 whole : (own : Sort) (f : Form) → is_plain_sort own ≡ true → may_be own f ≡ true → checked true own f ≡ true
 whole own f p m = met (is_plain_sort own && may_be own f) own f (both (is_plain_sort own) (may_be own f) p m) (others f own)
 
--- where a form may stand as a sort of plain C90, its pieces ask for what there can be
-pub fine_row : (own : Sort) (f : Form) → is_plain_sort own ≡ true → may_be own f ≡ true → is_fine own (pieces f) ≡ true
-fine_row own f p m = left_of (is_fine own (pieces f)) (walks own f (starts_as (needs own)) [] (pieces f)) (whole own f p m)
+pub record Right (own : Sort) (f : Form) : Type 0 where
+  -- its pieces ask for what there can be
+  pub fine : is_fine own (pieces f) ≡ true
+  -- and do what the sort says
+  pub walked : walks own f (starts_as (needs own)) [] (pieces f) ≡ true
+  pub is_form : is_form f ≡ true
+  pub suits : suits own f ≡ true
+  pub anew : begins_anew own f ≡ true
 
--- and do what the sort says
-pub walked_row : (own : Sort) (f : Form) → is_plain_sort own ≡ true → may_be own f ≡ true → walks own f (starts_as (needs own)) [] (pieces f) ≡ true
-walked_row own f p m = right_of (is_fine own (pieces f)) (walks own f (starts_as (needs own)) [] (pieces f)) (whole own f p m)
+-- where a form may stand as a sort of plain C90, its row is right
+pub right : (own : Sort) (f : Form) → is_plain_sort own ≡ true → may_be own f ≡ true → Right own f
+right own f p m = let a = is_fine own (pieces f) in let b = walks own f (starts_as (needs own)) [] (pieces f) in let c = is_form f in let d = suits own f in let e = begins_anew own f in
+    let h = whole own f p m in let l = left_of (a && b) (c && (d && e)) h in let r = right_of (a && b) (c && (d && e)) h in let q = right_of c (d && e) r in
+    record { fine = left_of a b l; walked = right_of a b l; is_form = left_of c (d && e) r; suits = left_of d e q; anew = right_of d e q }

@@ -1,6 +1,8 @@
 -- What a tree that is spelled tells besides, by its sort.
 use Rattle.std.specs.Prelude.{◌≡◌, ◌⊎◌, Bool, true, false, ◌&&◌, ◌||◌, List, Option, is_some}
 use Rattle.c_tokens.specs.declared.token.Shape.{Shape}
+use Rattle.c_tokens.specs.declared.class.Class.TheVariants as class
+use Rattle.c_tokens.specs.declared.token.Key.TheVariants as key
 use Rattle.c_forms.specs.declared.pieces.Sort.{Sort}
 use Rattle.c_forms.specs.declared.pieces.Sort.TheVariants as s
 use Rattle.c_forms.specs.declared.forms.Form.{Form}
@@ -15,7 +17,7 @@ use Rattle.c_reader.specs.Tokens.{Spot, class_at}
 use Rattle.c_trees.specs.Valid.{valid_tree}
 use Rattle.c_syntax.specs.Allowed.{may_stand}
 use Rattle.c_syntax.specs.Reading.{is_absent}
-use Rattle.c_syntax.specs.Spells.{may_list}
+use Rattle.c_syntax.specs.Spells.{Is, may_list}
 use Rattle.spelled_trees.specs.Effects.{Leaves}
 
 -- whether a declarator has a name, and a function part next to it
@@ -50,11 +52,14 @@ Besides w s.AbstractDeclarator t i j = is_named t ≡ false
 Besides w s.ParamDeclarator t i j = is_some j.state.kept.name ≡ true → is_named t ≡ true
 Besides w s.MemberName t i j = (is_absent t ≡ true) ⊎ (is_named t ≡ true)
 Besides w s.Params t i j = may_list i.state t ≡ true
--- no `else` follows a statement that ends open
-Besides w s.Stmt t i j = ends_open t ≡ true → has (starts s.ElsePart) (class_at w j) ≡ false
-Besides w s.ElsePart t i j = ends_open t ≡ true → has (starts s.ElsePart) (class_at w j) ≡ false
 Besides w s.BlockItem t i j = (is_decl t.form ≡ true → i.state.is_late ≡ false) × (is_decl t.form ≡ false → j.state.is_late ≡ true)
 Besides w due t i j = Unit {0}
+
+-- no `else` follows what ends open
+abbrev pub Ended : List Shape → Sort → Plain → Spot → Spot → Type 0
+Ended w s.Stmt t i j = ends_open t ≡ true → has (starts s.ElsePart) (class_at w j) ≡ false
+Ended w s.ElsePart t i j = Is w (class.Key key.Else) i × (ends_open t ≡ true → has (starts s.ElsePart) (class_at w j) ≡ false)
+Ended w due t i j = Unit {0}
 
 pub record Told (w : List Shape) (due : Sort) (t : Plain) (i j : Spot) : Type 0 where
   pub leaves : Leaves due i.state j.state
