@@ -80,7 +80,7 @@ ids_named x f sp ps m h = absurd (cc h)
 
 -- ---- the parts of a declarator
 
-listed_names : (list part : Plain) (sp : Span) (xs : List Plain) → list ≡ node the_list sp xs → names (forest (list ∷ (part ∷ []))) ≡ is_named part
+pub listed_names : (list part : Plain) (sp : Span) (xs : List Plain) → list ≡ node the_list sp xs → names (forest (list ∷ (part ∷ []))) ≡ is_named part
 listed_names list part sp xs e = rw e (or_false (is_named part))
 
 listed_function : (list part : Plain) (sp : Span) (xs : List Plain) → list ≡ node the_list sp xs → has_function (forest (list ∷ (part ∷ []))) ≡ is_function part

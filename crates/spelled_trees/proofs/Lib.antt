@@ -12,3 +12,4 @@ pub mod Named
 pub mod Statements
 pub mod Endings
 pub mod Blocks
+pub mod Rules
