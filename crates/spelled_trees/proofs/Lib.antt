@@ -13,3 +13,4 @@ pub mod Statements
 pub mod Endings
 pub mod Blocks
 pub mod Rules
+pub mod Valid
