@@ -44,7 +44,7 @@ module _ (levels : Type 0) (deeper inner : Spelling) (w : List Shape) (D : Ends 
   opened : (t : Plain) (ts : List Plain) (i j : ℕ) → t ≡ node t.form (spanned i j) ts → ends_open t ≡ (ends_as_last_part t.form && last_opens (forest ts))
   opened t ts i j e = ap (λ (x : Plain). ends_as_last_part t.form && last_opens x.parts) e
 
-  ended_at : Ends w (At levels deeper inner w)
+  pub ended_at : Ends w (At levels deeper inner w)
   ended_at s.Stmt least t i j N = λ k. node_stmt w (parts_spelled (is_starred t.form) deeper inner) (by_kind w (is_starred t.form) deeper inner D I) t.form N.parts i j (right s.Stmt t.form refl N.may).suits N.matches
       (sym (opened t N.parts i.place j.place N.value) ∙ k)
   ended_at s.ElsePart least t i j N = let R = node_else w (parts_spelled (is_starred t.form) deeper inner) (by_kind w (is_starred t.form) deeper inner D I) t.form N.parts i j (right s.ElsePart t.form refl N.may).suits N.matches in

@@ -14,3 +14,4 @@ pub mod Endings
 pub mod Blocks
 pub mod Rules
 pub mod Valid
+pub mod Trees

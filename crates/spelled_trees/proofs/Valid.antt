@@ -84,7 +84,7 @@ some_more true e = refl
 some_more false e = sym e
 
 -- what a specifier adds
-adds : (k : Know) (f : Form) (first now : Kept) → specifies k f ≡ true → Knows k first now → (now.has_type ≡ (first.has_type || is_type f)) × (now.is_sole ≡ (first.is_sole || is_sole f))
+pub adds : (k : Know) (f : Form) (first now : Kept) → specifies k f ≡ true → Knows k first now → (now.has_type ≡ (first.has_type || is_type f)) × (now.is_sole ≡ (first.is_sole || is_sole f))
 adds Same f first now e K = let h = neither (is_type f) (is_sole f) e in (ap (λ (x : Kept). x.has_type) K ∙ no_more first.has_type h.0, ap (λ (x : Kept). x.is_sole) K ∙ no_more first.is_sole h.1)
 adds Typedefed f first now e K = let h = neither (is_type f) (is_sole f) e in (ap (λ (x : Kept). x.has_type) K ∙ no_more first.has_type h.0, ap (λ (x : Kept). x.is_sole) K ∙ no_more first.is_sole h.1)
 adds Typed f first now e K = let h = first_alone (is_type f) (is_sole f) e in (ap (λ (x : Kept). x.has_type) K ∙ some_more first.has_type h.0, ap (λ (x : Kept). x.is_sole) K ∙ no_more first.is_sole h.1)
@@ -107,19 +107,19 @@ right_by : (b : Bool) (o : Option Rule) → b ≡ true → o ≡ None → is_not
 right_by true o e k = ap is_nothing k
 right_by false o e k = absurd (cc e)
 
-stmt_no_decl : (f : Form) → is_stmt f ≡ true → is_decl f ≡ false
+pub stmt_no_decl : (f : Form) → is_stmt f ≡ true → is_decl f ≡ false
 stmt_no_decl (form.Stmt f) h = refl
 stmt_no_decl f h = absurd (cc h)
 
-opposed : {A : Type 0} {b : Bool} → b ≡ true → b ≡ false → A
+pub opposed : {A : Type 0} {b : Bool} → b ≡ true → b ≡ false → A
 opposed e f = absurd (cc (e, f))
 
 -- where a function may begin
-anew_started : (b : Bool) (i : Spot) → IsNew i.state.kept → IsNew (started_by b i).state.kept
+pub anew_started : (b : Bool) (i : Spot) → IsNew i.state.kept → IsNew (started_by b i).state.kept
 anew_started true i N = record { untyped = N.untyped; unsettled = N.unsettled; nameless = N.nameless }
 anew_started false i N = N
 
-aside_started : (b : Bool) (i : Spot) → (started_by b i).state.aside ≡ i.state.aside
+pub aside_started : (b : Bool) (i : Spot) → (started_by b i).state.aside ≡ i.state.aside
 aside_started true i = refl
 aside_started false i = refl
 
@@ -137,19 +137,19 @@ by_kind w false deeper inner D I = I
 
 module _ (w : List Shape) (P : Spelling) (T : Telling w P) where
   -- a declarator, as one of four sorts
-  as_declared : (f : Form) (sp : Span) (ts : List Plain) (i j : Spot) → is_declarator f ≡ true → may_be s.Declarator f ≡ true → Matches P w s.Declarator f Usual (pieces f) ts i j → Declared (node f sp ts) j.state.kept
+  pub as_declared : (f : Form) (sp : Span) (ts : List Plain) (i j : Spot) → is_declarator f ≡ true → may_be s.Declarator f ≡ true → Matches P w s.Declarator f Usual (pieces f) ts i j → Declared (node f sp ts) j.state.kept
   as_declared (form.Declarator g) sp ts i j h m M = declared w P T.tells T.stand g sp ts i j m M
   as_declared f sp ts i j h m M = absurd (cc h)
 
-  as_abstract : (f : Form) (sp : Span) (ts : List Plain) (i j : Spot) → is_declarator f ≡ true → may_be s.AbstractDeclarator f ≡ true → i.state.kept.name ≡ None → Matches P w s.AbstractDeclarator f Usual (pieces f) ts i j → is_named (node f sp ts) ≡ false
+  pub as_abstract : (f : Form) (sp : Span) (ts : List Plain) (i j : Spot) → is_declarator f ≡ true → may_be s.AbstractDeclarator f ≡ true → i.state.kept.name ≡ None → Matches P w s.AbstractDeclarator f Usual (pieces f) ts i j → is_named (node f sp ts) ≡ false
   as_abstract (form.Declarator g) sp ts i j h m N M = abstract w P T.tells T.stand g sp ts i j m N M
   as_abstract f sp ts i j h m N M = absurd (cc h)
 
-  as_param : (f : Form) (sp : Span) (ts : List Plain) (i j : Spot) → is_declarator f ≡ true → i.state.kept.name ≡ None → Matches P w s.ParamDeclarator f Usual (pieces f) ts i j → Besides w s.ParamDeclarator (node f sp ts) i j
+  pub as_param : (f : Form) (sp : Span) (ts : List Plain) (i j : Spot) → is_declarator f ≡ true → i.state.kept.name ≡ None → Matches P w s.ParamDeclarator f Usual (pieces f) ts i j → Besides w s.ParamDeclarator (node f sp ts) i j
   as_param (form.Declarator g) sp ts i j h N M = of_param w P T.tells T.stand g sp ts i j N M
   as_param f sp ts i j h N M = absurd (cc h)
 
-  as_member : (f : Form) (sp : Span) (ts : List Plain) (i j : Spot) → is_declarator f ≡ true → Matches P w s.MemberName f Usual (pieces f) ts i j → Besides w s.MemberName (node f sp ts) i j
+  pub as_member : (f : Form) (sp : Span) (ts : List Plain) (i j : Spot) → is_declarator f ≡ true → Matches P w s.MemberName f Usual (pieces f) ts i j → Besides w s.MemberName (node f sp ts) i j
   as_member (form.Declarator g) sp ts i j h M = of_member w P T.tells T.stand g sp ts i j M
   as_member f sp ts i j h M = absurd (cc h)
 
@@ -163,10 +163,10 @@ pub record IsRight (own : Sort) (t : Plain) (i j : Spot) : Type 0 where
   pub knows : Knows know i.state.kept j.state.kept
 
 module _ (levels : Type 0) (deeper inner : Spelling) (w : List Shape) (D : Telling w deeper) (I : Telling w inner) where
-  abbrev Spelled : Plain → Spelling
+  abbrev pub Spelled : Plain → Spelling
   Spelled t = parts_spelled (is_starred t.form) deeper inner
 
-  parts_tell : (t : Plain) → Telling w (Spelled t)
+  pub parts_tell : (t : Plain) → Telling w (Spelled t)
   parts_tell t = by_kind w (is_starred t.form) deeper inner D I
 
   -- each node that is spelled is right over its parts
@@ -181,5 +181,5 @@ module _ (levels : Type 0) (deeper inner : Spelling) (w : List Shape) (D : Telli
       know = W.know; ended = W.ended; knows = W.knows
   }
 
-  told : (own : Sort) (t : Plain) (i j : Spot) → IsRight own t i j → Besides w own t i j → Told w own t i j
+  pub told : (own : Sort) (t : Plain) (i j : Spot) → IsRight own t i j → Besides w own t i j → Told w own t i j
   told own t i j R b = record { leaves = R.leaves; valid = both (is_right t.form t.parts) (valid t.parts) R.right R.parts; besides = b }
