@@ -1,5 +1,5 @@
 -- In a block no declaration comes after a statement.
-use Rattle.std.proofs.Common.{◌≡◌, refl, ap, sym, ◌∙◌, subst, ℕ, Bool, true, false, not, ◌&&◌, ◌||◌, if◌then◌else◌, List, [], ◌∷◌, ◌++◌, Option, Some, None}
+use Rattle.std.proofs.Common.{◌≡◌, refl, ap, sym, ◌∙◌, subst, ℕ, Bool, true, false, not, ◌&&◌, ◌||◌, if◌then◌else◌, List, [], ◌∷◌, ◌++◌}
 use Rattle.c_tokens.specs.declared.token.Shape.{Shape}
 use Rattle.c_forms.specs.declared.pieces.Sort.{Sort}
 use Rattle.c_forms.specs.declared.pieces.Sort.TheVariants as s
@@ -77,9 +77,9 @@ module _ (w : List Shape) (P : Spelling) (T : (due : Sort) (least : ℕ) (t : Pl
 
   one_more : (ts : List Plain) (t : Plain) (least : ℕ) (i j k m : Spot) → Items ts j.state → k.state ≡ j.state → P s.BlockItem least t k m → Items (ts ++ (t ∷ [])) m.state
   one_more ts t least i j k m I e p = let N = subst (λ (x : State). IsNew x.kept) (sym e) I.anew in let R = T s.BlockItem least t k m p refl N in let late = λ (h : has_other ts ≡ true). ap (λ (x : State). x.is_late) e ∙ I.late h in record {
-      anew = R.leaves.kept;
-      order = ordered_append false ts t I.order (clear ts (is_decl t.form) k.state.is_late late R.besides.0);
-      late = λ h. lately (has_other ts) (is_decl t.form) k.state.is_late m.state.is_late late R.besides.0 R.besides.1 (sym (other_append ts t) ∙ h)
+    anew = R.leaves.kept;
+    order = ordered_append false ts t I.order (clear ts (is_decl t.form) k.state.is_late late R.besides.0);
+    late = λ h. lately (has_other ts) (is_decl t.form) k.state.is_late m.state.is_late late R.besides.0 R.besides.1 (sym (other_append ts t) ∙ h);
   }
 
   pub items : (least : ℕ) (r : Repetition) (before : Before) (ts : List Plain) (i j : Spot) → IsGroup r s.BlockItem (P s.BlockItem least) before w ts i j → IsNew i.state.kept → Items ts j.state

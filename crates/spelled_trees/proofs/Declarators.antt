@@ -1,11 +1,10 @@
 -- What a declarator with another inside of it leaves.
-use Rattle.std.proofs.Common.{◌≡◌, ◌⊎◌, inl, inr, refl, ap, sym, ◌∙◌, subst, ℕ, Bool, true, false, not, ◌&&◌, ◌||◌, if◌then◌else◌, List, [], ◌∷◌, Option, Some, None, is_some}
+use Rattle.std.proofs.Common.{◌≡◌, refl, ap, sym, ◌∙◌, subst, ℕ, Bool, true, false, not, ◌||◌, List, [], ◌∷◌, None, is_some}
 use Rattle.c_tokens.specs.declared.token.Shape.{Shape}
 use Rattle.c_forms.specs.declared.pieces.Sort.{Sort}
 use Rattle.c_forms.specs.declared.pieces.Sort.TheVariants as s
 use Rattle.c_forms.specs.declared.forms.Form.{Form}
 use Rattle.c_forms.specs.declared.forms.Form.TheVariants as form
-use Rattle.c_forms.specs.declared.forms.DeclaratorForm.{DeclaratorForm}
 use Rattle.c_forms.specs.declared.forms.DeclaratorForm.TheVariants as declarator
 use Rattle.c_forms.specs.declared.forms.ParamsForm.TheVariants as params
 use Rattle.c_forms.specs.Forests.{Plain, Forest, empty, tree, forest, node}
@@ -21,7 +20,7 @@ use Rattle.c_reader.specs.Tokens.{Spot, step, turned}
 use Rattle.c_syntax.specs.Allowed.{has_name}
 use Rattle.c_syntax.specs.Reading.{Before, Usual, inside, the_list}
 use Rattle.c_syntax.specs.Spells.{Spelling, IsGroup, Matches, may_list}
-use Rattle.spelled_trees.specs.Effects.{needs, Meets, Keeps, Done, does, Leaves, is_plain_sort, IsNew}
+use Rattle.spelled_trees.specs.Effects.{needs, Meets, Keeps, Done, does, is_plain_sort}
 use Rattle.spelled_trees.specs.Told.{is_named, is_function, is_bare_name, Told}
 use Rattle.spelled_trees.proofs.Parts.{both, group_fold}
 use Rattle.spelled_trees.proofs.Fitted.{at_sort, inside_stands}
@@ -129,30 +128,38 @@ module _ (w : List Shape) (P : Spelling) (T : (due : Sort) (least : ℕ) (t : Pl
 
   pub pointer : (own : Sort) (before : Before) (ts : List Plain) (i j : Spot) → Matches P w own (form.Declarator declarator.Pointer) before (pieces (form.Declarator declarator.Pointer)) ts i j → Pointed own ts i j
   pointer own before ts i j M = let G = M.1 in let N = G.are_others in let e = two G.value N.value N.are_others.1.0 in let q = N.are_others.1.1 in record {
-      within = record {
-          part = N.first; least = 1; from = G.place; upto = N.place; spelled = N.is_first;
-          begins = λ h. ap (λ (x : Kept). x.name) (kept_in s.Qualifier 0 (λ k. tt) refl refl (Many None 0) Usual G.is_first.0 (step i) G.place G.is_first.1.1) ∙ h;
-          name = sym (ap (λ (x : Spot). x.state.kept.name) q);
-          bare = sym (ap (λ (x : Spot). is_bare x.state.kept.near) q) ∙ sealed_bare N.place.state.kept.near;
-          named = ap (λ l. names (forest l)) e ∙ listed_names G.first N.first _ G.is_first.0 G.is_first.1.0
-      };
-      parameters = sym (ap (λ (x : Spot). has_parameters x.state.kept.near) q) ∙ sealed_parameters N.place.state.kept.near;
-      function = ap (λ l. has_function (forest l)) e ∙ listed_function G.first N.first _ G.is_first.0 G.is_first.1.0
+    within = record {
+      part = N.first;
+      least = 1;
+      from = G.place;
+      upto = N.place;
+      spelled = N.is_first;
+      begins = λ h. ap (λ (x : Kept). x.name) (kept_in s.Qualifier 0 (λ k. tt) refl refl (Many None 0) Usual G.is_first.0 (step i) G.place G.is_first.1.1) ∙ h;
+      name = sym (ap (λ (x : Spot). x.state.kept.name) q);
+      bare = sym (ap (λ (x : Spot). is_bare x.state.kept.near) q) ∙ sealed_bare N.place.state.kept.near;
+      named = ap (λ l. names (forest l)) e ∙ listed_names G.first N.first _ G.is_first.0 G.is_first.1.0;
+    };
+    parameters = sym (ap (λ (x : Spot). has_parameters x.state.kept.near) q) ∙ sealed_parameters N.place.state.kept.near;
+    function = ap (λ l. has_function (forest l)) e ∙ listed_function G.first N.first _ G.is_first.0 G.is_first.1.0;
   }
 
   pub array : (own : Sort) (before : Before) (ts : List Plain) (i j : Spot) → Matches P w own (form.Declarator declarator.ArrayOf) before (pieces (form.Declarator declarator.ArrayOf)) ts i j → Pointed own ts i j
   array own before ts i j M = let G = M.are_others.1.1 in let e = two M.value G.value G.are_others.1.1.1.0 in let q = G.are_others.1.1.1.1 in
       let k = ap top (aside_in s.Exp 3 (λ k. tt) refl Optional Usual G.is_first.0 (turned (happens event.Aside) (step M.place)) G.place G.is_first.1.1) in record {
-      within = record {
-          part = M.first; least = 2; from = i; upto = M.place; spelled = M.is_first;
+        within = record {
+          part = M.first;
+          least = 2;
+          from = i;
+          upto = M.place;
+          spelled = M.is_first;
           begins = λ h. h;
           name = sym (ap (λ (x : Spot). x.state.kept.name) q) ∙ ap (λ (x : Kept). x.name) k;
           bare = sym (ap (λ (x : Spot). is_bare x.state.kept.near) q) ∙ sealed_bare (top G.place.state.aside).near;
-          named = ap (λ l. names (forest l)) e ∙ names_listed G.first M.first _ G.is_first.0 G.is_first.1.0
-      };
-      parameters = sym (ap (λ (x : Spot). has_parameters x.state.kept.near) q) ∙ (sealed_parameters (top G.place.state.aside).near ∙ ap (λ (x : Kept). has_parameters x.near) k);
-      function = ap (λ l. has_function (forest l)) e ∙ function_listed G.first M.first _ G.is_first.0 G.is_first.1.0
-  }
+          named = ap (λ l. names (forest l)) e ∙ names_listed G.first M.first _ G.is_first.0 G.is_first.1.0;
+        };
+        parameters = sym (ap (λ (x : Spot). has_parameters x.state.kept.near) q) ∙ (sealed_parameters (top G.place.state.aside).near ∙ ap (λ (x : Kept). has_parameters x.near) k);
+        function = ap (λ l. has_function (forest l)) e ∙ function_listed G.first M.first _ G.is_first.0 G.is_first.1.0;
+      }
 
   pub record Applied (own : Sort) (ts : List Plain) (i j : Spot) : Type 0 where
     pub within : Within P own ts i j
@@ -166,15 +173,19 @@ module _ (w : List Shape) (P : Spelling) (T : (due : Sort) (least : ℕ) (t : Pl
       let start = turned (happens event.Enter) (turned (happens event.Aside) (step M.place)) in let p = at_sort P own s.Params 0 G.first start G.place refl G.is_first in
       let R = T s.Params 0 G.first start G.place p refl (record { untyped = refl; unsettled = refl; nameless = refl }) in let k = ap top R.leaves.aside in let c = S s.Params 0 G.first start G.place p in
       let d = inside_stands own s.InnerDeclarator 2 [] M.first.form (both (serves s.Declarator own) true serve refl) (S (inside own s.InnerDeclarator) 2 M.first i M.place M.is_first) in record {
-      within = record {
-          part = M.first; least = 2; from = i; upto = M.place; spelled = M.is_first;
+        within = record {
+          part = M.first;
+          least = 2;
+          from = i;
+          upto = M.place;
+          spelled = M.is_first;
           begins = λ h. h;
           name = sym (ap (λ (x : Spot). x.state.kept.name) q) ∙ ap (λ (x : Kept). x.name) k;
           bare = sym (ap (λ (x : Spot). is_bare x.state.kept.near) q) ∙ with_bare (innermost G.place.state.entries) (top G.place.state.aside).near;
-          named = ap (λ l. names (forest l)) e ∙ (ap (λ b. is_named M.first || (b || false)) (params_unnamed G.first.form (names G.first.parts) c) ∙ or_false (is_named M.first))
-      };
-      parameters = sym (ap (λ (x : Spot). has_parameters x.state.kept.near) q) ∙ (with_function (innermost G.place.state.entries) (top G.place.state.aside).near ∙ ap (λ (x : Kept). is_bare x.near || has_parameters x.near) k);
-      function = ap (λ l. has_function (forest l)) e ∙ (ap (λ b. is_function M.first || (b || false)) (params_no_function G.first.form (is_name G.first.parts) (has_function G.first.parts) c) ∙ or_false (is_function M.first));
-      next = ap (λ l. is_name (forest l)) e ∙ bare_of M.first.form M.first.span M.first.parts (forest (G.first ∷ []));
-      ids = λ h. ids_named start.state G.first.form G.first.span G.first.parts R.besides (sym (no_ids M.first.form M.first.span M.first.parts (forest (G.first ∷ [])) d) ∙ (sym (ap (λ l. has_ids (forest l)) e) ∙ h))
-  }
+          named = ap (λ l. names (forest l)) e ∙ (ap (λ b. is_named M.first || (b || false)) (params_unnamed G.first.form (names G.first.parts) c) ∙ or_false (is_named M.first));
+        };
+        parameters = sym (ap (λ (x : Spot). has_parameters x.state.kept.near) q) ∙ (with_function (innermost G.place.state.entries) (top G.place.state.aside).near ∙ ap (λ (x : Kept). is_bare x.near || has_parameters x.near) k);
+        function = ap (λ l. has_function (forest l)) e ∙ (ap (λ b. is_function M.first || (b || false)) (params_no_function G.first.form (is_name G.first.parts) (has_function G.first.parts) c) ∙ or_false (is_function M.first));
+        next = ap (λ l. is_name (forest l)) e ∙ bare_of M.first.form M.first.span M.first.parts (forest (G.first ∷ []));
+        ids = λ h. ids_named start.state G.first.form G.first.span G.first.parts R.besides (sym (no_ids M.first.form M.first.span M.first.parts (forest (G.first ∷ [])) d) ∙ (sym (ap (λ l. has_ids (forest l)) e) ∙ h));
+      }

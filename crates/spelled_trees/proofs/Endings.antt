@@ -1,5 +1,5 @@
 -- No `else` follows a statement that ends open.
-use Rattle.std.proofs.Common.{◌≡◌, inl, inr, refl, ap, sym, ◌∙◌, ℕ, zero, suc, Bool, true, false, ◌&&◌, List, []}
+use Rattle.std.proofs.Common.{◌≡◌, refl, ap, sym, ◌∙◌, ℕ, zero, suc, Bool, true, false, ◌&&◌, List}
 use Rattle.c_tokens.specs.declared.token.Shape.{Shape}
 use Rattle.c_tokens.specs.declared.token.Key.TheVariants as key
 use Rattle.c_tokens.specs.declared.class.Class.TheVariants as class
@@ -8,14 +8,14 @@ use Rattle.c_forms.specs.declared.pieces.Sort.TheVariants as s
 use Rattle.c_forms.specs.declared.forms.Form.{Form}
 use Rattle.c_forms.specs.declared.forms.Form.TheVariants as form
 use Rattle.c_forms.specs.declared.forms.GroupForm.TheVariants as group
-use Rattle.c_forms.specs.Forests.{Plain, Forest, forest, node}
+use Rattle.c_forms.specs.Forests.{Plain, forest, node}
 use Rattle.c_forms.specs.Measures.{pieces, ends_as_last_part}
 use Rattle.c_forms.specs.Opens.{last_opens, ends_open}
 use Rattle.c_forms.specs.Sets.{has, starts}
 use Rattle.c_reader.specs.Tokens.{Spot, class_at}
 use Rattle.c_syntax.specs.Allowed.{places}
 use Rattle.c_syntax.specs.Reading.{Usual, is_starred, spanned}
-use Rattle.c_syntax.specs.Spells.{Spelling, Is, Matches, IsNode, At, InPlace, Spells, nothing_spelled, parts_spelled}
+use Rattle.c_syntax.specs.Spells.{Spelling, Is, Matches, At, InPlace, Spells, nothing_spelled, parts_spelled}
 use Rattle.spelled_trees.specs.Told.{Ended}
 use Rattle.spelled_trees.proofs.Parts.{left_of, right_of}
 use Rattle.spelled_trees.proofs.Suits.{suits}

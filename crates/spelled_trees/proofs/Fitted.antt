@@ -1,5 +1,5 @@
 -- What spells the pieces of a row fits them.
-use Rattle.std.proofs.Common.{◌≡◌, ◌⊎◌, inl, inr, refl, ap, sym, ◌∙◌, subst, ℕ, zero, suc, ◌+◌, Bool, true, false, not, ◌&&◌, ◌||◌, if◌then◌else◌, List, [], ◌∷◌, ◌++◌, Option, Some, None, nat_lt}
+use Rattle.std.proofs.Common.{◌≡◌, inl, inr, refl, ap, ◌∙◌, subst, ℕ, Bool, true, false, not, ◌&&◌, ◌||◌, if◌then◌else◌, List, [], ◌∷◌, nat_lt}
 use Rattle.c_tokens.specs.declared.token.Shape.{Shape}
 use Rattle.c_forms.specs.declared.pieces.Sort.{Sort}
 use Rattle.c_forms.specs.declared.pieces.Sort.TheVariants as s
@@ -9,16 +9,14 @@ use Rattle.c_forms.specs.declared.pieces.Piece.TheVariants.{Token, Maybe, Own, T
 use Rattle.c_forms.specs.declared.places.Occupant.{Occupant}
 use Rattle.c_forms.specs.declared.places.Occupant.TheVariants as what
 use Rattle.c_forms.specs.declared.forms.Form.{Form}
-use Rattle.c_forms.specs.declared.forms.Form.TheVariants as form
-use Rattle.c_forms.specs.declared.forms.DeclaratorForm.TheVariants as declarator
-use Rattle.c_forms.specs.Forests.{Plain, Forest, empty, tree, forest}
-use Rattle.c_forms.specs.Measures.{pieces, is_plain}
+use Rattle.c_forms.specs.Forests.{Plain, forest}
+use Rattle.c_forms.specs.Measures.{is_plain}
 use Rattle.c_tokens.specs.declared.kind.Kind.TheVariants as kind
 use Rattle.c_forms.specs.Places.{is_sort, serves, stands, stands_as, joins, joins_as, occupant_of}
-use Rattle.c_forms.specs.Fits.{fits, number, least_of, is_single, is_spliced, all_stand, all_join, elements, is_list_of}
+use Rattle.c_forms.specs.Fits.{fits, number, is_single, is_spliced, all_stand, all_join, elements}
 use Rattle.c_reader.specs.Tokens.{Spot}
-use Rattle.c_syntax.specs.Reading.{Before, Usual, inside, the_list}
-use Rattle.c_syntax.specs.Spells.{Spelling, IsGroup, Parted, IsList, Matches, IsNode, Wraps, At, may_be}
+use Rattle.c_syntax.specs.Reading.{Before, Usual, inside}
+use Rattle.c_syntax.specs.Spells.{Spelling, Matches, IsNode, At, may_be}
 use Rattle.spelled_trees.proofs.Parts.{both, left_of, right_of, Each, is_low, Numbered, numbered, group_each}
 
 -- a declarator stands inside of one alone, and a least number is 0 or 1
@@ -136,7 +134,7 @@ module _ (w : List Shape) (P : Spelling) (S : (due : Sort) (least : ℕ) (t : Pl
       (fitted own f _ ps M.others M.place j (after_one own due least ps h) M.are_others))
   fitted own f before (Group r due least ∷ ps) ts i j h M = rw (M.value, M.is_first.1.0) (both (elements r due (forest M.is_first.0)) (fits ps (forest M.others))
       (counted r due M.is_first.0 (numbered w (P due least) r due before M.is_first.0 i M.place (left_of (is_low r) (is_fine own ps) h) M.is_first.1.1)
-          (group_each w (P due least) (λ t. stands t.form due ≡ true) (S due least) r due before M.is_first.0 i M.place M.is_first.1.1))
+      (group_each w (P due least) (λ t. stands t.form due ≡ true) (S due least) r due before M.is_first.0 i M.place M.is_first.1.1))
       (fitted own f _ ps M.others M.place j (right_of (is_low r) (is_fine own ps) h) M.are_others))
   fitted own f before (Then e ∷ ps) ts i j h M = fitted own f before ps ts _ j h M.1
   fitted own f before (TypeTokens ∷ ps) ts i j h M = absurd M

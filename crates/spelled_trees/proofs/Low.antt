@@ -1,19 +1,19 @@
 -- A tree that is spelled in plain C90 is pure, and not higher than the depth.
-use Rattle.std.proofs.Common.{◌≡◌, ◌≤◌, refl, ap, sym, ℕ, zero, suc, ◌+◌, max, Bool, true, false, ◌&&◌, List, [], ◌∷◌, nat_eq, arith}
+use Rattle.std.proofs.Common.{◌≡◌, ◌≤◌, refl, ap, ℕ, zero, suc, ◌+◌, Bool, true, false, List, [], ◌∷◌, nat_eq, arith}
 use Rattle.c_tokens.specs.declared.span.Span.{Span}
 use Rattle.c_tokens.specs.declared.token.Shape.{Shape}
 use Rattle.c_forms.specs.declared.pieces.Sort.{Sort}
 use Rattle.c_forms.specs.declared.pieces.Counts.{Counts}
 use Rattle.c_forms.specs.declared.pieces.Counts.TheVariants.{Nothing, Size, SizeAndHeight}
 use Rattle.c_forms.specs.declared.forms.Form.{Form}
-use Rattle.c_forms.specs.Forests.{Plain, Forest, empty, tree, forest, node}
+use Rattle.c_forms.specs.Forests.{Plain, forest, node}
 use Rattle.c_forms.specs.Rows.{row}
-use Rattle.c_forms.specs.Measures.{is_plain, star, star_of, pieces}
+use Rattle.c_forms.specs.Measures.{is_plain, star_of, pieces}
 use Rattle.c_reader.specs.Tokens.{Spot}
 use Rattle.c_trees.specs.Counts.{pure, pure_tree, high, high_tree}
 use Rattle.c_syntax.specs.Allowed.{places}
 use Rattle.c_syntax.specs.Reading.{Usual, the_list, is_starred, spanned}
-use Rattle.c_syntax.specs.Spells.{Spelling, Matches, IsNode, Wraps, At, InPlace, Spells, nothing_spelled, may_be, parts_spelled, Levels}
+use Rattle.c_syntax.specs.Spells.{Spelling, Matches, IsNode, InPlace, Spells, nothing_spelled, parts_spelled, Levels}
 use Rattle.spelled_trees.proofs.Parts.{both, left_of, right_of, Each}
 use Rattle.spelled_trees.proofs.Ways.{Way, as_node, as_wrapped, as_word, as_literal, way, parts_each}
 
@@ -44,7 +44,7 @@ module _ (levels : Type 0) (deeper inner : Spelling) (w : List Shape) (D : Withi
   pub pure_node : (due : Sort) (least : ℕ) (t : Plain) (i j : Spot) → IsNode levels deeper inner w due least t i j → Pure t
   pure_node due least t i j N = both (is_plain t.form) (pure t.parts) (left_of (is_plain t.form) _ N.may)
       (rw (parts_of w t N.parts i.place j.place N.value) (all_pure N.parts (parts_each w (parts_spelled (is_starred t.form) deeper inner) Pure pure_lists
-          (by_kind (is_starred t.form) deeper inner Pure D I) due t.form Usual (pieces t.form) N.parts i j N.matches)))
+      (by_kind (is_starred t.form) deeper inner Pure D I) due t.form Usual (pieces t.form) N.parts i j N.matches)))
 
   pure_way : (due : Sort) (t : Plain) (i j : Spot) → Way levels deeper inner w due t i j → Pure t
   pure_way due t i j (as_node own least k m N) = pure_node own least t k m N

@@ -1,20 +1,19 @@
 -- What a declarator tells, by the sort as which it is spelled.
-use Rattle.std.proofs.Common.{◌≡◌, ◌⊎◌, inl, inr, refl, ap, sym, ◌∙◌, subst, ℕ, Bool, true, false, not, ◌&&◌, ◌||◌, List, [], ◌∷◌, Option, Some, None, is_some}
+use Rattle.std.proofs.Common.{◌≡◌, ◌⊎◌, inl, inr, refl, ap, sym, ◌∙◌, ℕ, Bool, true, false, not, ◌||◌, List, Option, None, is_some}
 use Rattle.c_tokens.specs.declared.span.Span.{Span}
 use Rattle.c_tokens.specs.declared.token.Shape.{Shape}
 use Rattle.c_forms.specs.declared.pieces.Sort.{Sort}
 use Rattle.c_forms.specs.declared.pieces.Sort.TheVariants as s
-use Rattle.c_forms.specs.declared.forms.Form.{Form}
 use Rattle.c_forms.specs.declared.forms.Form.TheVariants as form
 use Rattle.c_forms.specs.declared.forms.DeclaratorForm.{DeclaratorForm}
 use Rattle.c_forms.specs.declared.forms.DeclaratorForm.TheVariants as declarator
-use Rattle.c_forms.specs.Forests.{Plain, Forest, forest, node}
+use Rattle.c_forms.specs.Forests.{Plain, forest, node}
 use Rattle.c_forms.specs.Measures.{pieces}
 use Rattle.c_forms.specs.Places.{stands, serves}
-use Rattle.c_forms.specs.Rules.{names, has_ids, has_function, is_name, in_declarator}
-use Rattle.c_reader.specs.States.{Kept, is_bare, has_parameters}
+use Rattle.c_forms.specs.Rules.{names, has_ids}
+use Rattle.c_reader.specs.States.{is_bare, has_parameters}
 use Rattle.c_reader.specs.Tokens.{Spot}
-use Rattle.c_syntax.specs.Reading.{Before, Usual, is_absent}
+use Rattle.c_syntax.specs.Reading.{Usual, is_absent}
 use Rattle.c_syntax.specs.Spells.{Spelling, Matches, may_be}
 use Rattle.spelled_trees.specs.Effects.{needs, Meets, is_plain_sort}
 use Rattle.spelled_trees.specs.Told.{is_named, Declared, Told}

@@ -1,15 +1,15 @@
 -- What holds of each element of a group, and how many there are.
-use Rattle.std.proofs.Common.{◌≡◌, ◌⊎◌, inl, inr, refl, ap, sym, ℕ, zero, suc, ◌+◌, ◌≤◌, Bool, true, false, ◌&&◌, List, [], ◌∷◌, ◌++◌, Option, Some, None, nat_lt, arith}
+use Rattle.std.proofs.Common.{◌≡◌, inl, inr, refl, ap, sym, ℕ, zero, suc, ◌+◌, ◌≤◌, Bool, true, false, ◌&&◌, List, [], ◌∷◌, ◌++◌, Option, Some, None, nat_lt, arith}
 use Rattle.c_tokens.specs.declared.token.Shape.{Shape}
 use Rattle.c_tokens.specs.declared.class.Class.{Class}
 use Rattle.c_forms.specs.declared.pieces.Sort.{Sort}
 use Rattle.c_forms.specs.declared.pieces.Repetition.{Repetition}
 use Rattle.c_forms.specs.declared.pieces.Repetition.TheVariants.{Optional, Greedy, Due, All, Any, Many, Spliced, Ended}
-use Rattle.c_forms.specs.Forests.{Plain, Forest, empty, tree, forest}
+use Rattle.c_forms.specs.Forests.{Plain, forest}
 use Rattle.c_forms.specs.Fits.{number, least_of, is_single}
 use Rattle.c_reader.specs.Tokens.{Spot}
 use Rattle.c_syntax.specs.Reading.{Before}
-use Rattle.c_syntax.specs.Spells.{Separated, Longer, Chain, Elements, Absent, Once, AnyNumber, IsGroup}
+use Rattle.c_syntax.specs.Spells.{Separated, Chain, Absent, Once, AnyNumber, IsGroup}
 
 pub both : (a b : Bool) → a ≡ true → b ≡ true → (a && b) ≡ true
 both true true h k = refl

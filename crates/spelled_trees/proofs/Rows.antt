@@ -1,5 +1,5 @@
 -- The row of each form of plain C90 is right for what the form's sort needs and does.
-use Rattle.std.proofs.Common.{◌≡◌, refl, Bool, true, false, ◌&&◌, List, []}
+use Rattle.std.proofs.Common.{◌≡◌, refl, Bool, true, false, ◌&&◌, []}
 use Rattle.c_forms.specs.declared.forms.ExpForm.{ExpForm}
 use Rattle.c_forms.specs.declared.forms.ExpForm.TheVariants as exp
 use Rattle.c_forms.specs.declared.forms.SpecForm.{SpecForm}

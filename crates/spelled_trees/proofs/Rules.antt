@@ -1,5 +1,5 @@
 -- A node that is spelled breaks no rule beside the table.
-use Rattle.std.proofs.Common.{◌≡◌, ◌⊎◌, inl, inr, refl, ap, sym, ◌∙◌, subst, ℕ, Bool, true, false, not, ◌&&◌, ◌||◌, List, [], ◌∷◌, Option, Some, None}
+use Rattle.std.proofs.Common.{◌≡◌, ◌⊎◌, inl, inr, refl, ap, sym, ◌∙◌, ℕ, Bool, true, false, not, ◌&&◌, ◌||◌, List, [], ◌∷◌, Option, None}
 use Rattle.c_tokens.specs.declared.span.Span.{Span}
 use Rattle.c_tokens.specs.declared.token.Shape.{Shape}
 use Rattle.c_forms.specs.declared.pieces.Event.TheVariants as event
@@ -23,7 +23,7 @@ use Rattle.c_forms.specs.declared.forms.GroupForm.{GroupForm}
 use Rattle.c_forms.specs.declared.forms.GroupForm.TheVariants as group
 use Rattle.c_forms.specs.declared.rules.Rule.{Rule}
 use Rattle.c_forms.specs.declared.rules.Rule.TheVariants.{TagOrBody, NameOrWidth, NoName, Name, NoFunction, SoleType, AbstractIds, LateDeclaration}
-use Rattle.c_forms.specs.Forests.{Plain, Forest, empty, tree, forest, node}
+use Rattle.c_forms.specs.Forests.{Plain, Forest, tree, forest, node}
 use Rattle.c_forms.specs.Measures.{pieces}
 use Rattle.c_forms.specs.Places.{stands, serves}
 use Rattle.c_forms.specs.Rules.{is_none, in_first, after_first, are_specifiers, ordered, is_absent, names, has_function, unless, among_rules, in_spec, in_declarator, in_stmt, in_item, in_group}
@@ -31,12 +31,12 @@ use Rattle.c_reader.specs.States.{State, Kept, happens}
 use Rattle.c_reader.specs.Tokens.{Spot, step, turned}
 use Rattle.c_syntax.specs.Reading.{Before, Usual, before_by, is_missing, the_list}
 use Rattle.c_syntax.specs.Reading as reading
-use Rattle.c_syntax.specs.Spells.{Spelling, Absent, Once, IsGroup, Parted, IsList, Matches}
-use Rattle.spelled_trees.specs.Effects.{Need, NoMatter, Anew, Unnamed, needs, Meets, IsNew, is_plain_sort}
-use Rattle.spelled_trees.specs.Told.{is_named, is_function, Specified, Declared, Told, Ended}
-use Rattle.spelled_trees.proofs.Parts.{left_of, right_of, group_fold}
-use Rattle.spelled_trees.proofs.Fitted.{is_fine, at_sort}
-use Rattle.spelled_trees.proofs.Suits.{is_form, is_anew, begins_anew}
+use Rattle.c_syntax.specs.Spells.{Spelling, IsGroup, Matches}
+use Rattle.spelled_trees.specs.Effects.{Need, Anew, needs, Meets, IsNew, is_plain_sort}
+use Rattle.spelled_trees.specs.Told.{is_named, is_function, Specified, Told, Ended}
+use Rattle.spelled_trees.proofs.Parts.{left_of, group_fold}
+use Rattle.spelled_trees.proofs.Fitted.{at_sort}
+use Rattle.spelled_trees.proofs.Suits.{is_anew}
 use Rattle.spelled_trees.proofs.Rows.{Right}
 use Rattle.spelled_trees.proofs.Specifiers.{specifiers}
 use Rattle.spelled_trees.proofs.Declarators.{two, listed_names}
@@ -125,8 +125,8 @@ module _ (w : List Shape) (P : Spelling) (T : (due : Sort) (least : ℕ) (t : Pl
   member_declarator : (own : Sort) (ts : List Plain) (i j : Spot) → Matches P w own (form.Group group.MemberDeclarator) Usual (pieces (form.Group group.MemberDeclarator)) ts i j → in_group group.MemberDeclarator (forest ts) ≡ None
   member_declarator own ts i j M = let G = M.are_others in let e = two M.value G.value G.are_others.0 in
       passes _ NameOrWidth None (ap (λ l. names (forest l) || (is_absent (forest l) && not (is_none (in_first (after_first (forest l)))))) e
-          ∙ by M.first G.first ((T s.MemberName 1 M.first i M.place (at_sort P own s.MemberName 1 M.first i M.place refl M.is_first) refl tt).besides)
-              (is_there (reading.is_absent M.first) s.Width M.first G.first G.is_first.0 M.place G.place (ap (λ (x : Plain). x.parts) G.is_first.1.0) G.is_first.1.1)) refl
+      ∙ by M.first G.first ((T s.MemberName 1 M.first i M.place (at_sort P own s.MemberName 1 M.first i M.place refl M.is_first) refl tt).besides)
+      (is_there (reading.is_absent M.first) s.Width M.first G.first G.is_first.0 M.place G.place (ap (λ (x : Plain). x.parts) G.is_first.1.0) G.is_first.1.1)) refl
     where
       named : (a b c : Bool) → a ≡ true → ((a || b) || c) ≡ true
       named true b c h = refl
@@ -148,7 +148,7 @@ module _ (w : List Shape) (P : Spelling) (T : (due : Sort) (least : ℕ) (t : Pl
       → unless (not (is_none (in_first (forest ts))) || not (is_none (in_first (after_first (forest ts))))) TagOrBody None ≡ None
   tagged own due f before ps ts i j M = let G = M.are_others in let v = M.value ∙ ap (λ l. M.first ∷ l) G.value in
       passes _ TagOrBody None (ap (λ l. not (is_none (in_first (forest l))) || not (is_none (in_first (after_first (forest l))))) v
-          ∙ is_there (is_none M.first.parts) due M.first G.first G.is_first.0 M.place G.place (ap (λ (x : Plain). x.parts) G.is_first.1.0) G.is_first.1.1) refl
+      ∙ is_there (is_none M.first.parts) due M.first G.first G.is_first.0 M.place G.place (ap (λ (x : Plain). x.parts) G.is_first.1.0) G.is_first.1.1) refl
 
   block : (own : Sort) (ts : List Plain) (i j : Spot) → IsNew i.state.kept → Matches P w own (form.Stmt stmt.Block) Usual (pieces (form.Stmt stmt.Block)) ts i j → in_stmt stmt.Block (forest ts) ≡ None
   block own ts i j N M = let G = M.1.1 in passes _ LateDeclaration None (ap (λ l. ordered false (in_first (forest l))) G.value ∙ (ap (λ (x : Plain). ordered false x.parts) G.is_first.1.0

@@ -1,5 +1,5 @@
 -- A list of specifiers: a type that allows no other stands alone.
-use Rattle.std.proofs.Common.{◌≡◌, refl, ap, sym, ◌∙◌, subst, ℕ, zero, suc, ◌+◌, ◌<◌, Bool, true, false, not, ◌&&◌, ◌||◌, List, [], ◌∷◌, ◌++◌, nat_lt, arith}
+use Rattle.std.proofs.Common.{◌≡◌, refl, ap, sym, ◌∙◌, subst, ℕ, zero, suc, ◌+◌, Bool, true, false, not, ◌&&◌, ◌||◌, List, [], ◌∷◌, ◌++◌, nat_lt, arith}
 use Rattle.c_tokens.specs.declared.token.Shape.{Shape}
 use Rattle.c_forms.specs.declared.pieces.Sort.{Sort}
 use Rattle.c_forms.specs.declared.pieces.Repetition.{Repetition}
@@ -77,9 +77,9 @@ module _ (w : List Shape) (one : Plain → Spot → Spot → Type 0) (S : (t : P
 
   one_more : (ts : List Plain) (t : Plain) (old mid new : State) → Listed ts old → mid ≡ old → Specified t mid new → Listed (ts ++ (t ∷ [])) new
   one_more ts t old mid new L s S = let p = subst (λ x. Specified t x new) s S in record {
-      typed = p.typed ∙ (ap (λ b. b || is_type t.form) L.typed ∙ (sym (more (types (forest ts)) (is_type t.form)) ∙ ap (λ n. nat_lt 0 n) (sym (types_append ts t))));
-      settled = p.settled ∙ (ap (λ b. b || is_sole t.form) L.settled ∙ sym (sole_append ts t));
-      are = rw (types_append ts t, sole_append ts t) (fits_on (types (forest ts)) (has_sole (forest ts)) (is_type t.form) (is_sole t.form) (sole_type t.form) (rw (L.typed, L.settled) at p.may) L.are)
+    typed = p.typed ∙ (ap (λ b. b || is_type t.form) L.typed ∙ (sym (more (types (forest ts)) (is_type t.form)) ∙ ap (λ n. nat_lt 0 n) (sym (types_append ts t))));
+    settled = p.settled ∙ (ap (λ b. b || is_sole t.form) L.settled ∙ sym (sole_append ts t));
+    are = rw (types_append ts t, sole_append ts t) (fits_on (types (forest ts)) (has_sole (forest ts)) (is_type t.form) (is_sole t.form) (sole_type t.form) (rw (L.typed, L.settled) at p.may) L.are);
   }
 
   pub specifiers : (r : Repetition) (due : Sort) (before : Before) (ts : List Plain) (i j : Spot) → IsGroup r due one before w ts i j → IsNew i.state.kept → Listed ts j.state

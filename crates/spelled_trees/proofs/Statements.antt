@@ -1,13 +1,11 @@
 -- Statements that end open, and the order of declarations and statements in a block.
-use Rattle.std.proofs.Common.{◌≡◌, ◌⊎◌, inl, inr, refl, ap, sym, ◌∙◌, subst, ℕ, zero, suc, Bool, true, false, not, ◌&&◌, ◌||◌, if◌then◌else◌, List, [], ◌∷◌, ◌++◌, Option, Some, None}
+use Rattle.std.proofs.Common.{◌≡◌, inl, inr, refl, ap, sym, ◌∙◌, subst, ℕ, Bool, true, false, not, ◌||◌, List, [], ◌∷◌, None}
 use Rattle.c_tokens.specs.declared.token.Shape.{Shape}
 use Rattle.c_tokens.specs.declared.token.Key.TheVariants as key
 use Rattle.c_tokens.specs.declared.class.Class.TheVariants as class
-use Rattle.c_tokens.specs.ClassNumbers.{class_number}
-use Rattle.c_forms.specs.declared.pieces.Event.TheVariants as event
 use Rattle.c_forms.specs.declared.pieces.Sort.{Sort}
 use Rattle.c_forms.specs.declared.pieces.Sort.TheVariants as s
-use Rattle.c_forms.specs.declared.pieces.Repetition.TheVariants.{Greedy, Spliced}
+use Rattle.c_forms.specs.declared.pieces.Repetition.TheVariants.{Greedy}
 use Rattle.c_forms.specs.declared.pieces.Piece.{Piece}
 use Rattle.c_forms.specs.declared.pieces.Piece.TheVariants.{Token, Maybe, Own, TypeTokens, KindName, One, Group, Rest, Anything, Then}
 use Rattle.c_forms.specs.declared.forms.Form.{Form}
@@ -15,23 +13,19 @@ use Rattle.c_forms.specs.declared.forms.Form.TheVariants as form
 use Rattle.c_forms.specs.declared.forms.StmtForm.{StmtForm}
 use Rattle.c_forms.specs.declared.forms.StmtForm.TheVariants as stmt
 use Rattle.c_forms.specs.declared.forms.GroupForm.TheVariants as group
-use Rattle.c_forms.specs.Forests.{Plain, Forest, empty, tree, forest, node}
+use Rattle.c_forms.specs.Forests.{Plain, forest}
 use Rattle.c_forms.specs.Measures.{pieces, ends_as_last_part}
 use Rattle.c_forms.specs.Opens.{last_opens, ends_open}
-use Rattle.c_forms.specs.Places.{stands}
-use Rattle.c_forms.specs.Rules.{is_none, is_decl, ordered, in_if, in_first, unless}
+use Rattle.c_forms.specs.Rules.{is_none, in_if, unless}
 use Rattle.c_forms.specs.declared.rules.Rule.TheVariants.{OpenPart}
 use Rattle.c_forms.specs.Sets.{has, starts}
-use Rattle.c_reader.specs.States.{State, happens}
-use Rattle.c_reader.specs.Tokens.{Spot, step, turned, class_at}
-use Rattle.c_syntax.specs.Reading.{Before, before_by, is_absent, Usual, inside, the_list}
-use Rattle.c_syntax.specs.Spells.{Spelling, Is, Absent, Once, IsGroup, Parted, IsList, Matches}
-use Rattle.spelled_trees.specs.Effects.{needs, Meets, IsNew, is_plain_sort}
+use Rattle.c_reader.specs.Tokens.{Spot, step, class_at}
+use Rattle.c_syntax.specs.Reading.{Before, before_by, is_absent, Usual}
+use Rattle.c_syntax.specs.Spells.{Spelling, Is, IsGroup, Matches}
 use Rattle.spelled_trees.specs.Told.{Ended}
-use Rattle.spelled_trees.proofs.Parts.{both, left_of, right_of, group_fold}
+use Rattle.spelled_trees.proofs.Parts.{right_of}
 use Rattle.spelled_trees.proofs.Fitted.{is_inner, at_sort}
 use Rattle.spelled_trees.proofs.Declarators.{two}
-use Rattle.spelled_trees.proofs.Suits.{is_form}
 
 -- ---- the last part
 
@@ -68,9 +62,12 @@ with_first {us = us} t e L = record { part = L.part; least = L.least; from = L.f
 module _ (w : List Shape) (P : Spelling) where
   last_one : (own due : Sort) (f : Form) (before : Before) (least : ℕ) (ts : List Plain) (i j : Spot) → due ≡ s.Stmt → Matches P w own f before (One due least ∷ []) ts i j → Last P ts j
   last_one own due f before least ts i j e M = let p = at_sort P own due least M.first i M.place (ap is_inner e) M.is_first in let v = M.value ∙ ap (λ l. M.first ∷ l) M.are_others.0 in record {
-      part = M.first; least = least; from = i;
-      spelled = subst (λ x. P x least M.first i j) e (subst (λ k. P due least M.first i k) M.are_others.1 p);
-      opens = ap (λ l. last_opens (forest l)) v; some = ap (λ l. is_none (forest l)) v
+    part = M.first;
+    least = least;
+    from = i;
+    spelled = subst (λ x. P x least M.first i j) e (subst (λ k. P due least M.first i k) M.are_others.1 p);
+    opens = ap (λ l. last_opens (forest l)) v;
+    some = ap (λ l. is_none (forest l)) v;
   }
 
   last_part : (own : Sort) (f : Form) (before : Before) (ps : List Piece) (ts : List Plain) (i j : Spot) → ends_in ps ≡ true → Matches P w own f before ps ts i j → Last P ts j
@@ -114,12 +111,18 @@ module _ (w : List Shape) (P : Spelling) where
 
   if_parts : (own : Sort) (before : Before) (ts : List Plain) (i j : Spot) → Matches P w own (form.Stmt stmt.If) before (pieces (form.Stmt stmt.If)) ts i j → Parts ts j
   if_parts own before ts i j M = let C = M.1.1 in let B = C.are_others.1 in let E = B.are_others in record {
-      condition = C.first; part = B.first; last = E.first; elses = E.is_first.0; least = 0; from = step C.place; at = B.place;
-      value = C.value ∙ ap (λ l. C.first ∷ l) (two B.value E.value E.are_others.0);
-      spelled = at_sort P own s.Stmt 0 B.first _ B.place refl B.is_first;
-      parts = ap (λ (x : Plain). x.parts) E.is_first.1.0;
-      listed = ap (λ (x : Plain). ends_as_last_part x.form) E.is_first.1.0;
-      chosen = subst (λ k. IsGroup Greedy s.ElsePart (P s.ElsePart 0) (before_by (is_absent B.first)) w E.is_first.0 B.place k) E.are_others.1 E.is_first.1.1
+    condition = C.first;
+    part = B.first;
+    last = E.first;
+    elses = E.is_first.0;
+    least = 0;
+    from = step C.place;
+    at = B.place;
+    value = C.value ∙ ap (λ l. C.first ∷ l) (two B.value E.value E.are_others.0);
+    spelled = at_sort P own s.Stmt 0 B.first _ B.place refl B.is_first;
+    parts = ap (λ (x : Plain). x.parts) E.is_first.1.0;
+    listed = ap (λ (x : Plain). ends_as_last_part x.form) E.is_first.1.0;
+    chosen = subst (λ k. IsGroup Greedy s.ElsePart (P s.ElsePart 0) (before_by (is_absent B.first)) w E.is_first.0 B.place k) E.are_others.1 E.is_first.1.1;
   }
 
   by_last : (ts : List Plain) (j : Spot) → ((least : ℕ) (t : Plain) (i j : Spot) → P s.Stmt least t i j → Ended w s.Stmt t i j) → Last P ts j → last_opens (forest ts) ≡ true → Follows j ≡ false

@@ -1,5 +1,5 @@
 -- Which forms stand as a sort of plain C90.
-use Rattle.std.proofs.Common.{Bool, true, false, not, ◌&&◌, ◌||◌}
+use Rattle.std.proofs.Common.{Bool, true, false, not, ◌||◌}
 use Rattle.c_forms.specs.declared.pieces.Sort.{Sort}
 use Rattle.c_forms.specs.declared.pieces.Sort.TheVariants as s
 use Rattle.c_forms.specs.declared.forms.Form.{Form}
@@ -9,7 +9,7 @@ use Rattle.c_forms.specs.declared.forms.ItemForm.TheVariants as item
 use Rattle.c_forms.specs.declared.forms.GroupForm.{GroupForm}
 use Rattle.c_forms.specs.declared.forms.GroupForm.TheVariants as group
 use Rattle.c_forms.specs.Rules.{is_decl}
-use Rattle.spelled_trees.specs.Effects.{Need, NoMatter, Anew, Unnamed, needs}
+use Rattle.spelled_trees.specs.Effects.{Need, Anew, needs}
 
 abbrev pub is_group : GroupForm → Bool
 is_group group.InitDeclarator = true

@@ -1,22 +1,18 @@
 -- What is spelled in plain C90 is a valid tree, by induction on the depth.
-use Rattle.std.proofs.Common.{◌≡◌, ◌≤◌, ◌⊎◌, inl, inr, refl, ap, sym, ◌∙◌, subst, ℕ, zero, suc, Bool, true, false, List, []}
+use Rattle.std.proofs.Common.{◌≡◌, inl, inr, refl, sym, ◌∙◌, subst, ℕ, zero, suc, Bool, true, List}
 use Rattle.c_tokens.specs.declared.token.Shape.{Shape}
-use Rattle.c_forms.specs.declared.pieces.Event.TheVariants as event
 use Rattle.c_forms.specs.declared.pieces.Sort.{Sort}
 use Rattle.c_forms.specs.declared.pieces.Sort.TheVariants as s
-use Rattle.c_forms.specs.Forests.{Plain, Forest, forest, node}
-use Rattle.c_forms.specs.Measures.{pieces}
+use Rattle.c_forms.specs.Forests.{Plain}
 use Rattle.c_forms.specs.Rules.{is_right}
-use Rattle.c_reader.specs.States.{State, happens}
-use Rattle.c_reader.specs.Tokens.{Spot, step, turned}
+use Rattle.c_reader.specs.Tokens.{Spot, step}
 use Rattle.c_trees.specs.Valid.{valid_tree}
 use Rattle.c_syntax.specs.Allowed.{may_stand, places}
-use Rattle.c_syntax.specs.Reading.{Usual, is_starred, spanned}
-use Rattle.c_syntax.specs.Spells.{Spelling, IsNode, Wraps, At, InPlace, Spells, nothing_spelled, AnyWord, after_name, started_by, has_no_specifiers}
+use Rattle.c_syntax.specs.Reading.{spanned}
+use Rattle.c_syntax.specs.Spells.{Spelling, IsNode, At, InPlace, Spells, nothing_spelled, AnyWord, started_by, has_no_specifiers}
 use Rattle.spelled_trees.specs.Effects.{needs, Meets, IsNew, Leaves, is_plain_sort}
 use Rattle.spelled_trees.specs.Told.{Specified, Declared, Besides, Told}
 use Rattle.spelled_trees.proofs.Fitted.{stands_at}
-use Rattle.spelled_trees.proofs.Suits.{suits}
 use Rattle.spelled_trees.proofs.Rows.{right}
 use Rattle.spelled_trees.proofs.Endings.{ended_at}
 use Rattle.spelled_trees.proofs.Valid.{Telling, IsRight, Spelled, parts_tell, node_right, told, adds, stmt_no_decl, opposed, anew_started, aside_started, as_declared, as_abstract, as_param, as_member}

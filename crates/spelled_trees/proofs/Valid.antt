@@ -1,5 +1,5 @@
 -- A tree that is spelled in plain C90 is valid, and does to the declaration around it what its sort says.
-use Rattle.std.proofs.Common.{◌≡◌, ◌⊎◌, inl, inr, refl, ap, sym, ◌∙◌, subst, ℕ, zero, suc, Bool, true, false, not, ◌&&◌, ◌||◌, if◌then◌else◌, List, [], ◌∷◌, Option, Some, None}
+use Rattle.std.proofs.Common.{◌≡◌, refl, ap, sym, ◌∙◌, ℕ, Bool, true, false, not, ◌&&◌, ◌||◌, if◌then◌else◌, List, [], ◌∷◌, Option, Some, None}
 use Rattle.c_tokens.specs.declared.span.Span.{Span}
 use Rattle.c_tokens.specs.declared.token.Shape.{Shape}
 use Rattle.c_forms.specs.declared.pieces.Sort.{Sort}
@@ -8,27 +8,26 @@ use Rattle.c_forms.specs.declared.forms.Form.{Form}
 use Rattle.c_forms.specs.declared.forms.Form.TheVariants as form
 use Rattle.c_forms.specs.declared.rules.Rule.{Rule}
 use Rattle.c_forms.specs.declared.rules.Rule.TheVariants as rule
-use Rattle.c_forms.specs.Forests.{Plain, Forest, forest, node}
+use Rattle.c_forms.specs.Forests.{Plain, forest, node}
 use Rattle.c_forms.specs.Measures.{pieces}
 use Rattle.c_forms.specs.Places.{stands}
 use Rattle.c_forms.specs.Fits.{fits}
 use Rattle.c_forms.specs.Rules.{is_type, is_sole, is_decl, is_nothing, is_right, among_rules}
-use Rattle.c_reader.specs.States.{State, Kept}
-use Rattle.c_reader.specs.Tokens.{Spot, step}
+use Rattle.c_reader.specs.States.{Kept}
+use Rattle.c_reader.specs.Tokens.{Spot}
 use Rattle.c_trees.specs.Valid.{valid, valid_tree}
-use Rattle.c_syntax.specs.Allowed.{places}
-use Rattle.c_syntax.specs.Reading.{Usual, is_absent, is_starred, the_list, spanned}
-use Rattle.c_syntax.specs.Spells.{Spelling, Matches, IsNode, Wraps, At, InPlace, Spells, nothing_spelled, may_be, parts_spelled, started_by, has_no_specifiers}
+use Rattle.c_syntax.specs.Reading.{Usual, is_starred, the_list}
+use Rattle.c_syntax.specs.Spells.{Spelling, Matches, IsNode, may_be, parts_spelled, started_by}
 use Rattle.spelled_trees.specs.Effects.{Need, NoMatter, Anew, Unnamed, needs, Meets, IsNew, Does, Keeps, Renews, LeavesName, Changes, does, Done, Leaves, is_plain_sort}
-use Rattle.spelled_trees.specs.Told.{is_named, Specified, Declared, Besides, Told}
+use Rattle.spelled_trees.specs.Told.{is_named, Declared, Besides, Told}
 use Rattle.spelled_trees.proofs.Parts.{both, Each}
-use Rattle.spelled_trees.proofs.Fitted.{fitted, stands_at}
-use Rattle.spelled_trees.proofs.Walks.{Know, Same, Typedefed, Typed, Sole, New, Nameless, Something, Knows, specifies, ends_as, ends, starts_as}
-use Rattle.spelled_trees.proofs.Suits.{is_declarator, is_stmt, suits}
-use Rattle.spelled_trees.proofs.Rows.{Right, right}
-use Rattle.spelled_trees.proofs.Walked.{Walked, walked}
+use Rattle.spelled_trees.proofs.Fitted.{fitted}
+use Rattle.spelled_trees.proofs.Walks.{Know, Same, Typedefed, Typed, Sole, New, Nameless, Knows, specifies, ends_as, ends, starts_as}
+use Rattle.spelled_trees.proofs.Suits.{is_declarator, is_stmt}
+use Rattle.spelled_trees.proofs.Rows.{right}
+use Rattle.spelled_trees.proofs.Walked.{walked}
 use Rattle.spelled_trees.proofs.Named.{declared, abstract, of_param, of_member}
-use Rattle.spelled_trees.proofs.Endings.{Ends, ended_in_place, spelled_ended}
+use Rattle.spelled_trees.proofs.Endings.{Ends}
 use Rattle.spelled_trees.proofs.Rules.{rules}
 
 -- ---- what is known at the end of a row
@@ -173,13 +172,15 @@ module _ (levels : Type 0) (deeper inner : Spelling) (w : List Shape) (D : Telli
   pub node_right : (own : Sort) (least : ℕ) (t : Plain) (i j : Spot) → IsNode levels deeper inner w own least t i j → is_plain_sort own ≡ true → Meets (needs own) i.state.kept → IsRight own t i j
   node_right own least t i j N p M = let R = right own t.form p N.may in let T = parts_tell t in let e = ap (λ (x : Plain). x.parts) N.value in
       let W = walked w (Spelled t) Valid valid_lists (λ due least t i j q a m. let told = T.tells due least t i j q a m in (told.leaves, told.valid)) own t.form i.state.kept i.state.aside Usual (pieces t.form)
-          (starts_as (needs own)) [] N.parts i j R.walked (begun (needs own) i.state.kept M) refl N.matches in record {
-      leaves = record { aside = W.aside_same; kept = done own t.form W.know i.state.kept j.state.kept M W.ended W.knows };
-      right = ap (λ l. is_right t.form l) e ∙ right_by (fits (pieces t.form) (forest N.parts)) (among_rules t.form (forest N.parts)) (fitted w (Spelled t) T.stand own t.form Usual (pieces t.form) N.parts i j R.fine N.matches)
-          (rules w (Spelled t) T.tells T.stand T.ends t.form own N.parts i j R p M N.matches);
-      parts = ap valid e ∙ all_valid N.parts W.each;
-      know = W.know; ended = W.ended; knows = W.knows
-  }
+      (starts_as (needs own)) [] N.parts i j R.walked (begun (needs own) i.state.kept M) refl N.matches in record {
+        leaves = record { aside = W.aside_same; kept = done own t.form W.know i.state.kept j.state.kept M W.ended W.knows };
+        right = ap (λ l. is_right t.form l) e ∙ right_by (fits (pieces t.form) (forest N.parts)) (among_rules t.form (forest N.parts)) (fitted w (Spelled t) T.stand own t.form Usual (pieces t.form) N.parts i j R.fine N.matches)
+            (rules w (Spelled t) T.tells T.stand T.ends t.form own N.parts i j R p M N.matches);
+        parts = ap valid e ∙ all_valid N.parts W.each;
+        know = W.know;
+        ended = W.ended;
+        knows = W.knows;
+      }
 
   pub told : (own : Sort) (t : Plain) (i j : Spot) → IsRight own t i j → Besides w own t i j → Told w own t i j
   told own t i j R b = record { leaves = R.leaves; valid = both (is_right t.form t.parts) (valid t.parts) R.right R.parts; besides = b }

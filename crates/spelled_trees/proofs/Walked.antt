@@ -1,5 +1,5 @@
 -- What a row does, where its parts do what their sorts say.
-use Rattle.std.proofs.Common.{◌≡◌, ◌⊎◌, inl, inr, refl, ap, sym, ◌∙◌, subst, ℕ, Bool, true, false, not, ◌&&◌, List, [], ◌∷◌, ◌++◌, Option, Some, None}
+use Rattle.std.proofs.Common.{◌≡◌, inl, inr, refl, ap, sym, ◌∙◌, subst, ℕ, true, ◌&&◌, List, [], ◌∷◌}
 use Rattle.c_tokens.specs.declared.span.Span.{Span}
 use Rattle.c_tokens.specs.declared.token.Shape.{Shape}
 use Rattle.c_forms.specs.declared.pieces.Event.{Event}
@@ -9,14 +9,14 @@ use Rattle.c_forms.specs.declared.pieces.Repetition.{Repetition}
 use Rattle.c_forms.specs.declared.pieces.Piece.{Piece}
 use Rattle.c_forms.specs.declared.pieces.Piece.TheVariants.{Token, Maybe, Own, TypeTokens, KindName, One, Group, Rest, Anything, Then}
 use Rattle.c_forms.specs.declared.forms.Form.{Form}
-use Rattle.c_forms.specs.Forests.{Plain, forest, node}
+use Rattle.c_forms.specs.Forests.{Plain, node}
 use Rattle.c_reader.specs.States.{State, Kept, happens}
 use Rattle.c_reader.specs.Tokens.{Spot}
 use Rattle.c_syntax.specs.Reading.{Before, Usual, inside, the_list, spanned}
-use Rattle.c_syntax.specs.Spells.{Spelling, IsGroup, Parted, IsList, Matches}
-use Rattle.spelled_trees.specs.Effects.{Need, NoMatter, Anew, Unnamed, needs, IsNew, Meets, Does, Keeps, Renews, LeavesName, Changes, does, Done, Leaves, is_plain_sort}
-use Rattle.spelled_trees.proofs.Parts.{both, left_of, right_of, Each, each_append, group_fold}
-use Rattle.spelled_trees.proofs.Walks.{Know, Same, Typedefed, Typed, Sole, New, Nameless, Something, Knows, meets, named_as_before, after, is_met, blurred, marked, ends, now_after, aside_after, is_fit, is_due, walks}
+use Rattle.c_syntax.specs.Spells.{Spelling, IsGroup, Matches}
+use Rattle.spelled_trees.specs.Effects.{Need, NoMatter, Anew, Unnamed, needs, Meets, Does, Keeps, Renews, LeavesName, Changes, does, Done, Leaves, is_plain_sort}
+use Rattle.spelled_trees.proofs.Parts.{left_of, right_of, Each, each_append, group_fold}
+use Rattle.spelled_trees.proofs.Walks.{Know, Same, New, Nameless, Knows, meets, after, is_met, blurred, ends, now_after, aside_after, is_fit, is_due, walks}
 
 -- ---- knowledge
 
@@ -120,9 +120,9 @@ module _ (w : List Shape) (P : Spelling) (Q : Plain → Type 0) (lists : (s : Sp
   elements_done : (due : Sort) (k : Know) (first : Kept) (least : ℕ) → is_due due k ≡ true → after (does due) k ≡ k → (r : Repetition) (before : Before) (ts : List Plain) (i j : Spot) → IsGroup r due (P due least) before w ts i j → Grouped k first ts i j
   elements_done due k first least h e r before ts i j G = group_fold w (P due least) (Grouped k first) (λ i. record { knows = λ K. K; same = λ K. refl; all = λ K. tt })
       (λ ts t i j k' m R s p. record {
-          knows = λ K. rw e at (part_done due k first least t k' m h (rw s (R.knows K)) p).0;
-          same = λ K. (part_done due k first least t k' m h (rw s (R.knows K)) p).1.0 ∙ (ap (λ (x : State). x.aside) s ∙ R.same K);
-          all = λ K. each_append Q ts t (R.all K) (part_done due k first least t k' m h (rw s (R.knows K)) p).1.1
+        knows = λ K. rw e at (part_done due k first least t k' m h (rw s (R.knows K)) p).0;
+        same = λ K. (part_done due k first least t k' m h (rw s (R.knows K)) p).1.0 ∙ (ap (λ (x : State). x.aside) s ∙ R.same K);
+        all = λ K. each_append Q ts t (R.all K) (part_done due k first least t k' m h (rw s (R.knows K)) p).1.1;
       }) r due before ts i j G
 
   with_part : (own : Sort) (f : Form) (first : Kept) (aside : List Kept) (t : Plain) (ts : List Plain) (j : Spot) → Q t → Walked own f Q first aside ts j → Walked own f Q first aside (t ∷ ts) j
@@ -139,11 +139,11 @@ module _ (w : List Shape) (P : Spelling) (Q : Plain → Type 0) (lists : (s : Sp
   walked own f first aside before (One due least ∷ ps) k ks ts i j h K A M = let d = inside own due in let a = is_due d k in let b = walks own f (after (does d) k) ks ps in
       let D = part_done d k first least M.first i M.place (left_of a b h) K M.is_first in
       rw M.value (with_part own f first aside M.first M.others j D.1.1
-          (walked own f first aside _ ps (after (does d) k) ks M.others M.place j (right_of a b h) D.0 (rw (D.1.0) A) M.are_others))
+      (walked own f first aside _ ps (after (does d) k) ks M.others M.place j (right_of a b h) D.0 (rw (D.1.0) A) M.are_others))
   walked own f first aside before (Group r due least ∷ ps) k ks ts i j h K A M = let n = after (does due) k in let a = is_due due k in let b = is_due due n in let c = walks own f n ks ps in
       let G = elements_done due n first least (right_of a b (left_of (a && b) c h)) (again (does due) k) r before M.is_first.0 i M.place M.is_first.1.1 in let N = weaken (does due) k first i.state.kept K in
       rw M.value (with_part own f first aside M.first M.others j (rw (M.is_first.1.0) (lists (spanned i.place M.place.place) M.is_first.0 (G.all N)))
-          (walked own f first aside _ ps n ks M.others M.place j (right_of (a && b) c h) (G.knows N) (rw (G.same N) A) M.are_others))
+      (walked own f first aside _ ps n ks M.others M.place j (right_of (a && b) c h) (G.knows N) (rw (G.same N) A) M.are_others))
   walked own f first aside before (Then e ∷ ps) k ks ts i j h K A M = let a = is_fit e ks in let b = walks own f (now_after e k ks) (aside_after e k ks) ps in let m = left_of a b h in
       walked own f first aside before ps (now_after e k ks) (aside_after e k ks) ts _ j (right_of a b h) (now_known first aside e k ks i.state m K A) (aside_known first aside e k ks i.state m K A) M.1
   walked own f first aside before (TypeTokens ∷ ps) k ks ts i j h K A M = absurd M

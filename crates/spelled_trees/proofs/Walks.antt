@@ -1,18 +1,16 @@
 -- A row is walked through with what is known of the declaration: what it does is computed.
-use Rattle.std.proofs.Common.{◌≡◌, refl, Bool, true, false, not, ◌&&◌, ◌||◌, if◌then◌else◌, List, [], ◌∷◌, Option, Some, None}
+use Rattle.std.proofs.Common.{◌≡◌, Bool, true, false, not, ◌&&◌, List, [], ◌∷◌, None}
 use Rattle.c_forms.specs.declared.pieces.Event.{Event}
 use Rattle.c_forms.specs.declared.pieces.Event.TheVariants as event
 use Rattle.c_forms.specs.declared.pieces.Sort.{Sort}
 use Rattle.c_forms.specs.declared.pieces.Sort.TheVariants as s
 use Rattle.c_forms.specs.declared.pieces.Piece.{Piece}
-use Rattle.c_forms.specs.declared.pieces.Piece.TheVariants.{Token, Maybe, Own, TypeTokens, KindName, One, Group, Rest, Anything, Then}
+use Rattle.c_forms.specs.declared.pieces.Piece.TheVariants.{Token, Maybe, Own, One, Group, Then}
 use Rattle.c_forms.specs.declared.forms.Form.{Form}
-use Rattle.c_forms.specs.Measures.{pieces}
 use Rattle.c_forms.specs.Rules.{is_type, is_sole}
-use Rattle.c_reader.specs.States.{State, Kept, happens}
+use Rattle.c_reader.specs.States.{Kept}
 use Rattle.c_syntax.specs.Reading.{inside}
-use Rattle.spelled_trees.specs.Effects.{Need, NoMatter, Anew, Unnamed, needs, IsNew, Meets, Does, Keeps, Renews, LeavesName, Changes, does, Done, is_plain_sort}
-use Rattle.spelled_trees.proofs.Parts.{both, left_of, right_of}
+use Rattle.spelled_trees.specs.Effects.{Need, NoMatter, Anew, Unnamed, needs, IsNew, Does, Keeps, Renews, LeavesName, Changes, does, is_plain_sort}
 
 -- what is known of what a declaration has, where something was kept at first
 pub data Know : Type 0 where

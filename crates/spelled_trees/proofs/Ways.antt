@@ -1,5 +1,5 @@
 -- The ways in which a tree is spelled where it stands, and what holds of each part of a node.
-use Rattle.std.proofs.Common.{◌≡◌, ◌⊎◌, inl, inr, refl, ap, ℕ, zero, suc, ◌+◌, Bool, true, false, ◌&&◌, List, [], ◌∷◌, ◌++◌, Option, Some, None}
+use Rattle.std.proofs.Common.{inl, inr, ℕ, List, [], ◌∷◌}
 use Rattle.c_tokens.specs.declared.span.Span.{Span}
 use Rattle.c_tokens.specs.declared.token.Shape.{Shape}
 use Rattle.c_forms.specs.declared.pieces.Sort.{Sort}
@@ -7,10 +7,10 @@ use Rattle.c_forms.specs.declared.pieces.Sort.TheVariants as s
 use Rattle.c_forms.specs.declared.pieces.Piece.{Piece}
 use Rattle.c_forms.specs.declared.pieces.Piece.TheVariants.{Token, Maybe, Own, TypeTokens, KindName, One, Group, Rest, Anything, Then}
 use Rattle.c_forms.specs.declared.forms.Form.{Form}
-use Rattle.c_forms.specs.Forests.{Plain, forest, node}
+use Rattle.c_forms.specs.Forests.{Plain, node}
 use Rattle.c_reader.specs.Tokens.{Spot}
 use Rattle.c_syntax.specs.Reading.{Before, Usual, inside, the_list, spanned}
-use Rattle.c_syntax.specs.Spells.{Spelling, IsGroup, Parted, IsList, Matches, IsNode, Wraps, AnyWord, IsLiteral, At}
+use Rattle.c_syntax.specs.Spells.{Spelling, Matches, IsNode, Wraps, AnyWord, IsLiteral, At}
 use Rattle.spelled_trees.proofs.Parts.{Each, group_each}
 
 module _ (levels : Type 0) (deeper inner : Spelling) (w : List Shape) where
@@ -55,8 +55,10 @@ module _ (w : List Shape) (P : Spelling) (Q : Plain → Type 0) (lists : (s : Sp
   parts_each own f before (Maybe c ∷ ps) ts i j (inr M) = parts_each own f Usual ps ts _ j M
   parts_each own f before (Own ∷ ps) ts i j M = parts_each own f Usual ps ts _ j M.1
   parts_each own f before (One due least ∷ ps) ts i j M = rw M.value (S (inside own due) least M.first i M.place M.is_first, parts_each own f _ ps M.others M.place j M.are_others)
-  parts_each own f before (Group r due least ∷ ps) ts i j M = rw (M.value, M.is_first.1.0) (lists (spanned i.place M.place.place) M.is_first.0 (group_each w (P due least) Q (S due least) r due before M.is_first.0 i M.place M.is_first.1.1),
-      parts_each own f _ ps M.others M.place j M.are_others)
+  parts_each own f before (Group r due least ∷ ps) ts i j M = rw (M.value, M.is_first.1.0) (
+    lists (spanned i.place M.place.place) M.is_first.0 (group_each w (P due least) Q (S due least) r due before M.is_first.0 i M.place M.is_first.1.1),
+    parts_each own f _ ps M.others M.place j M.are_others,
+  )
   parts_each own f before (Then e ∷ ps) ts i j M = parts_each own f before ps ts _ j M.1
   parts_each own f before (TypeTokens ∷ ps) ts i j M = absurd M
   parts_each own f before (KindName ∷ ps) ts i j M = absurd M

@@ -1,13 +1,10 @@
 -- What a tree that is spelled tells besides, by its sort.
-use Rattle.std.specs.Prelude.{◌≡◌, ◌⊎◌, Bool, true, false, ◌&&◌, ◌||◌, List, Option, is_some}
+use Rattle.std.specs.Prelude.{◌≡◌, ◌⊎◌, Bool, true, false, ◌||◌, List, is_some}
 use Rattle.c_tokens.specs.declared.token.Shape.{Shape}
 use Rattle.c_tokens.specs.declared.class.Class.TheVariants as class
 use Rattle.c_tokens.specs.declared.token.Key.TheVariants as key
 use Rattle.c_forms.specs.declared.pieces.Sort.{Sort}
 use Rattle.c_forms.specs.declared.pieces.Sort.TheVariants as s
-use Rattle.c_forms.specs.declared.forms.Form.{Form}
-use Rattle.c_forms.specs.declared.forms.Form.TheVariants as form
-use Rattle.c_forms.specs.declared.forms.DeclaratorForm.TheVariants as declarator
 use Rattle.c_forms.specs.Forests.{Plain, empty, tree}
 use Rattle.c_forms.specs.Opens.{ends_open}
 use Rattle.c_forms.specs.Rules.{is_type, is_sole, is_name, named_at, names, function_at, has_function, is_decl}
