@@ -77,11 +77,11 @@ after_part inner own f i x = completed (parts_of f inner) own f i (one x) (after
 
 -- ---- words
 
-abbrev word_of : Shape → Option Word
+abbrev pub word_of : Shape → Option Word
 word_of (shape.Word word) = Some word
 word_of _ = None
 
-abbrev leaf_of : (Word → Form) → ℕ → Option Word → Option Found
+abbrev pub leaf_of : (Word → Form) → ℕ → Option Word → Option Found
 leaf_of f i (Some word) = Some (node (f word) i (i + 1) nothing)
 leaf_of f i None = None
 
@@ -89,7 +89,7 @@ abbrev pub leaf_if : Bool → (Word → Form) → ℕ → Seen → Option Found
 leaf_if true f i x = leaf_of f i (word_of x.shape)
 leaf_if false f i x = None
 
-abbrev literal_of : Shape → ℕ → Option Found
+abbrev pub literal_of : Shape → ℕ → Option Found
 literal_of (shape.Str word) i = Some (node (form.Literal word) i (i + 1) nothing)
 literal_of _ i = None
 
@@ -361,21 +361,21 @@ declaration_from inner i specs j d = after_part inner s.InitDeclarator (form.Gro
     >>= λ x. Ask (λ k. others (Spliced (Some (sign punct.Comma)) 0) s.InitDeclarator (inner s.InitDeclarator 0) (with_last (none_at j) x k.place))
     >>= λ g. declaration_of inner i specs (list_from j g)
 
--- what follows the first declarator decides
-abbrev pub outer_by : Parts → ℕ → Found → ℕ → Found → Reader Found
-outer_by inner i specs j d = Ask (λ k. Look (λ y. choose (k.state.kept.is_function_due || (is_function k.state && not (goes_on_declaring y)))
+-- what follows the first declarator decides, unless it must be a function
+abbrev pub outer_by : Bool → Parts → ℕ → Found → ℕ → Found → Reader Found
+outer_by due inner i specs j d = Ask (λ k. Look (λ y. choose (due || (is_function k.state && not (goes_on_declaring y)))
     (function_from inner i specs d) (declaration_from inner i specs j d)))
 
-abbrev pub outer : Parts → ℕ → Found → Reader Found
-outer inner i specs = Ask (λ j. inner s.Declarator 1 >>= λ d. outer_by inner i specs j.place d)
+abbrev pub outer : Bool → Parts → ℕ → Found → Reader Found
+outer due inner i specs = Ask (λ j. inner s.Declarator 1 >>= λ d. outer_by due inner i specs j.place d)
 
 abbrev pub specified : Parts → ℕ → Reader Found
 specified inner i = grouped All s.Spec (inner s.Spec 0) Usual >>= λ specs. Ask (λ j. Look (λ y. choose (is_sign punct.Semicolon y)
-    (declaration_of inner i specs (list_from j.place (none_at j.place))) (outer inner i specs)))
+    (declaration_of inner i specs (list_from j.place (none_at j.place))) (outer false inner i specs)))
 
 -- without specifiers it is a function
 abbrev pub unspecified : Parts → ℕ → Reader Found
-unspecified inner i = Change event.FunctionDue (outer inner i (list_from i (none_at i)))
+unspecified inner i = Change event.FunctionDue (outer true inner i (list_from i (none_at i)))
 
 unfoldable pub external : Parts → Reader Found
 external inner = Ask (λ i. Look (λ x. choose (begins s.Spec x) (specified inner i.place) (unspecified inner i.place)))

@@ -177,7 +177,7 @@ grouped r due element before = gathered r due element before >>= λ g. Give (lis
 
 -- ---- pieces
 
-abbrev is_absent_form : Form → Bool
+abbrev pub is_absent_form : Form → Bool
 is_absent_form (form.Declarator declarator.Absent) = true
 is_absent_form f = false
 
@@ -188,7 +188,7 @@ abbrev pub before_by : Bool → Before
 before_by true = Missing
 before_by false = Taken
 
-abbrev has_none : List Plain → Bool
+abbrev pub has_none : List Plain → Bool
 has_none [] = true
 has_none (t ∷ ts) = false
 

@@ -139,12 +139,12 @@ Levels true levels = levels
 Levels false levels = Unit {0}
 
 -- a declarator without a name has no name, and where one must have a name it is not absent
-abbrev is_declarator_of : Sort → DeclaratorForm → Bool
+abbrev pub is_declarator_of : Sort → DeclaratorForm → Bool
 is_declarator_of s.Declarator declarator.Absent = false
 is_declarator_of s.AbstractDeclarator declarator.Named = false
 is_declarator_of due f = true
 
-abbrev is_of : Sort → Form → Bool
+abbrev pub is_of : Sort → Form → Bool
 is_of due (form.Declarator f) = is_declarator_of due f
 is_of due f = true
 
@@ -170,7 +170,7 @@ wrapped_sort due = due
 
 -- In parentheses a declarator that need not have a name begins with `*`, `[` or `(`; and no expression begins with a
 -- word that is a type.
-abbrev nameless_starts : Classes
+abbrev pub nameless_starts : Classes
 nameless_starts = class_number (class.Punct punct.Star) ∷ class_number (class.Punct punct.LeftBracket) ∷ class_number (class.Punct punct.LeftParen) ∷ []
 
 abbrev pub BeginsWrapped : Sort → List Shape → Spot → Type 0
@@ -212,7 +212,7 @@ abbrev pub started_by : Bool → Spot → Spot
 started_by true i = turned (happens event.FunctionDue) i
 started_by false i = i
 
-abbrev is_function_form : Form → Bool
+abbrev pub is_function_form : Form → Bool
 is_function_form (form.Item item.Function) = true
 is_function_form f = false
 
@@ -221,7 +221,7 @@ has_no_specifiers t = is_function_form t.form && is_none (in_first t.parts)
 
 -- ---- what spells a tree where it stands
 
-abbrev is_ids : Form → Bool
+abbrev pub is_ids : Form → Bool
 is_ids (form.Params params.Ids) = true
 is_ids f = false
 
