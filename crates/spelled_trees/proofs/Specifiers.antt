@@ -11,6 +11,7 @@ use Rattle.c_forms.specs.Forests.{Plain, forest}
 use Rattle.c_forms.specs.Rules.{is_type, is_sole, one_if, types, has_sole, are_specifiers}
 use Rattle.c_reader.specs.States.{State}
 use Rattle.c_reader.specs.Tokens.{Spot}
+use Rattle.c_syntax.specs.Allowed.{fits_beside, may_stand}
 use Rattle.c_syntax.specs.Reading.{Before}
 use Rattle.c_syntax.specs.Spells.{IsGroup}
 use Rattle.spelled_trees.specs.Effects.{IsNew}
@@ -53,13 +54,26 @@ first_sole : (n : ℕ) → not (nat_lt 0 n) ≡ true → nat_lt (n + 1) 2 ≡ tr
 first_sole zero h = refl
 first_sole (suc n) h = let e : nat_lt 0 (suc n) ≡ true = grind arith in absurd (cc (e, h))
 
+-- what may stand beside a type, by what there is
+abbrev beside : Bool → Bool → Bool → Bool
+beside sole typed true = not typed
+beside sole typed false = not sole
+
+beside_is : (x : State) (b : Bool) → fits_beside x b ≡ beside x.kept.is_sole x.kept.has_type b
+beside_is x true = refl
+beside_is x false = refl
+
+may_beside : (x : State) (f : Form) → may_stand x f ≡ true → (not (is_type f) || beside x.kept.is_sole x.kept.has_type (is_sole f)) ≡ true
+may_beside x f h = sym (ap (λ b. not (is_type f) || b) (beside_is x (is_sole f))) ∙ h
+
 -- a further specifier that may stand there
-fits_on : (n : ℕ) (had is so : Bool) → (so ≡ true → is ≡ true) → (not is || (not had && (not so || not (nat_lt 0 n)))) ≡ true → (not had || nat_lt n 2) ≡ true → (not (had || so) || nat_lt (n + one_if is) 2) ≡ true
+fits_on : (n : ℕ) (had is so : Bool) → (so ≡ true → is ≡ true) → (not is || beside had (nat_lt 0 n) so) ≡ true → (not had || nat_lt n 2) ≡ true → (not (had || so) || nat_lt (n + one_if is) 2) ≡ true
 fits_on n had false true k m h = absurd (cc (k refl))
 fits_on n true false false k m h = let e : n + 0 ≡ n = omega arith in rw e h
 fits_on n false false false k m h = refl
-fits_on n true true so k m h = absurd (cc m)
+fits_on n true true false k m h = absurd (cc m)
 fits_on n false true false k m h = refl
+fits_on n true true true k m h = first_sole n m
 fits_on n false true true k m h = first_sole n m
 
 -- what a list of specifiers has, where no declaration had begun
@@ -79,7 +93,7 @@ module _ (w : List Shape) (one : Plain → Spot → Spot → Type 0) (S : (t : P
   one_more ts t old mid new L s S = let p = subst (λ x. Specified t x new) s S in record {
     typed = p.typed ∙ (ap (λ b. b || is_type t.form) L.typed ∙ (sym (more (types (forest ts)) (is_type t.form)) ∙ ap (λ n. nat_lt 0 n) (sym (types_append ts t))));
     settled = p.settled ∙ (ap (λ b. b || is_sole t.form) L.settled ∙ sym (sole_append ts t));
-    are = rw (types_append ts t, sole_append ts t) (fits_on (types (forest ts)) (has_sole (forest ts)) (is_type t.form) (is_sole t.form) (sole_type t.form) (rw (L.typed, L.settled) at p.may) L.are);
+    are = rw (types_append ts t, sole_append ts t) (fits_on (types (forest ts)) (has_sole (forest ts)) (is_type t.form) (is_sole t.form) (sole_type t.form) (rw (L.typed, L.settled) at (may_beside old t.form p.may)) L.are);
   }
 
   pub specifiers : (r : Repetition) (due : Sort) (before : Before) (ts : List Plain) (i j : Spot) → IsGroup r due one before w ts i j → IsNew i.state.kept → Listed ts j.state
