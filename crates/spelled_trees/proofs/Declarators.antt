@@ -15,12 +15,13 @@ use Rattle.c_tokens.specs.declared.span.Span.{Span}
 use Rattle.c_forms.specs.Measures.{pieces}
 use Rattle.c_forms.specs.Places.{stands, serves}
 use Rattle.c_forms.specs.Rules.{is_none, in_first, is_name, named_at, names, function_at, has_function, has_ids}
-use Rattle.c_reader.specs.States.{State, Kept, Entry, Near, Bare, Parameters, Other, sealed, with_parameters, is_bare, has_parameters, innermost, top, happens}
+use Rattle.c_reader.specs.States.{Edge, AsType, AsValue, parameters, State, Kept, Entry, Near, Bare, Parameters, Other, sealed, with_parameters, is_bare, has_parameters, innermost, top, happens}
 use Rattle.c_reader.specs.Tokens.{Spot, step, turned}
 use Rattle.c_syntax.specs.Allowed.{has_name}
 use Rattle.c_syntax.specs.Reading.{Before, Usual, inside, the_list}
 use Rattle.c_syntax.specs.Spells.{Spelling, IsGroup, Matches, may_list}
 use Rattle.spelled_trees.specs.Effects.{needs, Meets, Keeps, Done, does, is_plain_sort}
+use Rattle.spelled_trees.specs.Scoped.{are_words}
 use Rattle.spelled_trees.specs.Told.{is_named, is_function, is_bare_name, Told}
 use Rattle.spelled_trees.proofs.Parts.{both, group_fold}
 use Rattle.spelled_trees.proofs.Fitted.{at_sort, inside_stands}
@@ -50,6 +51,22 @@ with_function ws Other = refl
 pub or_false : (a : Bool) → (a || false) ≡ a
 or_false true = refl
 or_false false = refl
+
+sealed_words : (n : Near) → parameters (sealed n) ≡ parameters n
+sealed_words Bare = refl
+sealed_words (Parameters ws) = refl
+sealed_words Other = refl
+
+innermost_words : (es : List Entry) → are_words (innermost es) ≡ true
+innermost_words [] = refl
+innermost_words (Edge late ∷ es) = refl
+innermost_words (AsType word ∷ es) = innermost_words es
+innermost_words (AsValue word ∷ es) = innermost_words es
+
+with_words : (ws : List Entry) (n : Near) → are_words ws ≡ true → are_words (parameters n) ≡ true → are_words (parameters (with_parameters ws n)) ≡ true
+with_words ws Bare h k = h
+with_words ws (Parameters vs) h k = k
+with_words ws Other h k = k
 
 -- ---- parameters are no declarators
 
@@ -109,6 +126,7 @@ pub record Within (P : Spelling) (own : Sort) (ts : List Plain) (i j : Spot) : T
   pub name : j.state.kept.name ≡ upto.state.kept.name
   pub bare : is_bare j.state.kept.near ≡ false
   pub named : names (forest ts) ≡ is_named part
+  pub words : are_words (parameters upto.state.kept.near) ≡ true → are_words (parameters j.state.kept.near) ≡ true
 
 module _ (w : List Shape) (P : Spelling) (T : (due : Sort) (least : ℕ) (t : Plain) (i j : Spot) → P due least t i j → is_plain_sort due ≡ true → Meets (needs due) i.state.kept → Told w due t i j)
     (S : (due : Sort) (least : ℕ) (t : Plain) (i j : Spot) → P due least t i j → stands t.form due ≡ true) where
@@ -138,6 +156,7 @@ module _ (w : List Shape) (P : Spelling) (T : (due : Sort) (least : ℕ) (t : Pl
       name = sym (ap (λ (x : Spot). x.state.kept.name) q);
       bare = sym (ap (λ (x : Spot). is_bare x.state.kept.near) q) ∙ sealed_bare N.place.state.kept.near;
       named = ap (λ l. names (forest l)) e ∙ listed_names G.first N.first _ G.is_first.0 G.is_first.1.0;
+      words = λ h. sym (ap (λ (x : Spot). are_words (parameters x.state.kept.near)) q) ∙ (ap are_words (sealed_words N.place.state.kept.near) ∙ h);
     };
     parameters = sym (ap (λ (x : Spot). has_parameters x.state.kept.near) q) ∙ sealed_parameters N.place.state.kept.near;
     function = ap (λ l. has_function (forest l)) e ∙ listed_function G.first N.first _ G.is_first.0 G.is_first.1.0;
@@ -156,6 +175,7 @@ module _ (w : List Shape) (P : Spelling) (T : (due : Sort) (least : ℕ) (t : Pl
           name = sym (ap (λ (x : Spot). x.state.kept.name) q) ∙ ap (λ (x : Kept). x.name) k;
           bare = sym (ap (λ (x : Spot). is_bare x.state.kept.near) q) ∙ sealed_bare (top G.place.state.aside).near;
           named = ap (λ l. names (forest l)) e ∙ names_listed G.first M.first _ G.is_first.0 G.is_first.1.0;
+          words = λ h. sym (ap (λ (x : Spot). are_words (parameters x.state.kept.near)) q) ∙ (ap are_words (sealed_words (top G.place.state.aside).near) ∙ (ap (λ (x : Kept). are_words (parameters x.near)) k ∙ h));
         };
         parameters = sym (ap (λ (x : Spot). has_parameters x.state.kept.near) q) ∙ (sealed_parameters (top G.place.state.aside).near ∙ ap (λ (x : Kept). has_parameters x.near) k);
         function = ap (λ l. has_function (forest l)) e ∙ function_listed G.first M.first _ G.is_first.0 G.is_first.1.0;
@@ -183,6 +203,7 @@ module _ (w : List Shape) (P : Spelling) (T : (due : Sort) (least : ℕ) (t : Pl
           name = sym (ap (λ (x : Spot). x.state.kept.name) q) ∙ ap (λ (x : Kept). x.name) k;
           bare = sym (ap (λ (x : Spot). is_bare x.state.kept.near) q) ∙ with_bare (innermost G.place.state.entries) (top G.place.state.aside).near;
           named = ap (λ l. names (forest l)) e ∙ (ap (λ b. is_named M.first || (b || false)) (params_unnamed G.first.form (names G.first.parts) c) ∙ or_false (is_named M.first));
+          words = λ h. sym (ap (λ (x : Spot). are_words (parameters x.state.kept.near)) q) ∙ with_words (innermost G.place.state.entries) (top G.place.state.aside).near (innermost_words G.place.state.entries) (ap (λ (x : Kept). are_words (parameters x.near)) k ∙ h);
         };
         parameters = sym (ap (λ (x : Spot). has_parameters x.state.kept.near) q) ∙ (with_function (innermost G.place.state.entries) (top G.place.state.aside).near ∙ ap (λ (x : Kept). is_bare x.near || has_parameters x.near) k);
         function = ap (λ l. has_function (forest l)) e ∙ (ap (λ b. is_function M.first || (b || false)) (params_no_function G.first.form (is_name G.first.parts) (has_function G.first.parts) c) ∙ or_false (is_function M.first));

@@ -15,3 +15,5 @@ pub mod Blocks
 pub mod Rules
 pub mod Valid
 pub mod Trees
+pub mod Scopes
+pub mod ScopedTrees

@@ -31,11 +31,11 @@ use Rattle.c_syntax.specs.Spells.{may_be}
 use Rattle.spelled_trees.specs.Effects.{needs, is_plain_sort}
 use Rattle.spelled_trees.proofs.Parts.{both, left_of, right_of}
 use Rattle.spelled_trees.proofs.Fitted.{is_fine}
-use Rattle.spelled_trees.proofs.Suits.{is_form, suits, begins_anew}
+use Rattle.spelled_trees.proofs.Suits.{is_function, is_scoped, is_form, suits, begins_anew}
 use Rattle.spelled_trees.proofs.Walks.{starts_as, walks}
 
 abbrev checked : Bool → Sort → Form → Bool
-checked true own f = is_fine own (pieces f) && walks own f (starts_as (needs own)) [] (pieces f) && (is_form f && (suits own f && begins_anew own f))
+checked true own f = is_fine own (pieces f) && walks own f (starts_as (needs own)) [] (pieces f) && (is_form f && (suits own f && (begins_anew own f && is_scoped (is_function f) own f)))
 checked false own f = true
 
 abbrev is_right : Sort → Form → Bool
@@ -217,9 +217,10 @@ pub record Right (own : Sort) (f : Form) : Type 0 where
   pub is_form : is_form f ≡ true
   pub suits : suits own f ≡ true
   pub anew : begins_anew own f ≡ true
+  pub scoped : is_scoped (is_function f) own f ≡ true
 
 -- where a form may stand as a sort of plain C90, its row is right
 pub right : (own : Sort) (f : Form) → is_plain_sort own ≡ true → may_be own f ≡ true → Right own f
-right own f p m = let a = is_fine own (pieces f) in let b = walks own f (starts_as (needs own)) [] (pieces f) in let c = is_form f in let d = suits own f in let e = begins_anew own f in
-    let h = whole own f p m in let l = left_of (a && b) (c && (d && e)) h in let r = right_of (a && b) (c && (d && e)) h in let q = right_of c (d && e) r in
-    record { fine = left_of a b l; walked = right_of a b l; is_form = left_of c (d && e) r; suits = left_of d e q; anew = right_of d e q }
+right own f p m = let a = is_fine own (pieces f) in let b = walks own f (starts_as (needs own)) [] (pieces f) in let c = is_form f in let d = suits own f in let e = begins_anew own f in let g = is_scoped (is_function f) own f in
+    let h = whole own f p m in let l = left_of (a && b) (c && (d && (e && g))) h in let r = right_of (a && b) (c && (d && (e && g))) h in let q = right_of c (d && (e && g)) r in let o = right_of d (e && g) q in
+    record { fine = left_of a b l; walked = right_of a b l; is_form = left_of c (d && (e && g)) r; suits = left_of d (e && g) q; anew = left_of e g o; scoped = right_of e g o }

@@ -1,5 +1,5 @@
 -- Which forms stand as a sort of plain C90.
-use Rattle.std.proofs.Common.{Bool, true, false, not, ◌||◌}
+use Rattle.std.proofs.Common.{List, [], ◌∷◌, ◌&&◌, Bool, true, false, not, ◌||◌}
 use Rattle.c_forms.specs.declared.pieces.Sort.{Sort}
 use Rattle.c_forms.specs.declared.pieces.Sort.TheVariants as s
 use Rattle.c_forms.specs.declared.forms.Form.{Form}
@@ -9,7 +9,14 @@ use Rattle.c_forms.specs.declared.forms.ItemForm.TheVariants as item
 use Rattle.c_forms.specs.declared.forms.GroupForm.{GroupForm}
 use Rattle.c_forms.specs.declared.forms.GroupForm.TheVariants as group
 use Rattle.c_forms.specs.Rules.{is_decl}
-use Rattle.spelled_trees.specs.Effects.{Need, Anew, needs}
+use Rattle.c_forms.specs.Measures.{pieces}
+use Rattle.c_forms.specs.declared.pieces.Event.{Event}
+use Rattle.c_forms.specs.declared.pieces.Event.TheVariants as event
+use Rattle.c_forms.specs.declared.pieces.Piece.{Piece}
+use Rattle.c_forms.specs.declared.pieces.Piece.TheVariants.{Token, Maybe, Own, TypeTokens, KindName, One, Group, Rest, Anything, Then}
+use Rattle.c_syntax.specs.Reading.{inside}
+use Rattle.spelled_trees.specs.Scoped.{keeps_late}
+use Rattle.spelled_trees.specs.Effects.{is_plain_sort, Need, Anew, needs}
 
 abbrev pub is_group : GroupForm → Bool
 is_group group.InitDeclarator = true
@@ -86,3 +93,44 @@ is_anew n = false
 -- stands where no declaration has begun
 abbrev pub begins_anew : Sort → Form → Bool
 begins_anew own f = not (has_specifiers f) || is_anew (needs own)
+
+-- ---- scopes
+
+abbrev pub is_in_after : Event → Bool → Bool
+is_in_after event.Enter b = true
+is_in_after event.Leave b = false
+is_in_after event.Close b = false
+is_in_after e b = b
+
+-- whether it may happen in a scope of the row's own, or outside
+abbrev pub may_be_in : Event → Bool → Bool
+may_be_in event.Enter b = not b
+may_be_in event.Leave b = b
+may_be_in event.Close b = b
+may_be_in event.Open b = false
+may_be_in event.Shut b = false
+may_be_in event.Statements b = false
+may_be_in e b = true
+
+abbrev pub may_part : Sort → Bool → Bool
+may_part due b = is_plain_sort due && (keeps_late due || b)
+
+-- whether a row leaves each scope that it enters
+abbrev pub scopes : Sort → Bool → List Piece → Bool
+scopes own b [] = not b
+scopes own b (Token c ∷ ps) = scopes own b ps
+scopes own b (Maybe c ∷ ps) = scopes own b ps
+scopes own b (Own ∷ ps) = scopes own b ps
+scopes own b (One due least ∷ ps) = may_part (inside own due) b && scopes own b ps
+scopes own b (Group r due least ∷ ps) = may_part due b && scopes own b ps
+scopes own b (Then e ∷ ps) = may_be_in e b && scopes own (is_in_after e b) ps
+scopes own b (p ∷ ps) = false
+
+-- a function's body is in a scope that begins with its parameters
+abbrev pub is_function : Form → Bool
+is_function (form.Item item.Function) = true
+is_function f = false
+
+abbrev pub is_scoped : Bool → Sort → Form → Bool
+is_scoped true own f = true
+is_scoped false own f = scopes own false (pieces f)

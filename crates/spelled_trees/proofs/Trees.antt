@@ -74,7 +74,7 @@ module _ (levels : Type 0) (deeper inner : Spelling) (w : List Shape) (D : Telli
   telling_at : Telling w (At levels deeper inner w)
   telling_at = record { tells = tells_at; stand = stands_at levels deeper inner w D.stand; «ends» = ended_at levels deeper inner w D.ends I.ends }
 
-nothing_telling : (w : List Shape) → Telling w nothing_spelled
+pub nothing_telling : (w : List Shape) → Telling w nothing_spelled
 nothing_telling w = record { tells = λ due least t i j P. absurd P; stand = λ due least t i j P. absurd P; «ends» = λ due least t i j P. absurd P }
 
 -- in place
