@@ -1,7 +1,6 @@
 -- What is spelled in plain C90 leaves each scope that it enters.
-use Rattle.std.proofs.Common.{◌≡◌, ◌⊎◌, inl, inr, refl, ap, sym, ◌∙◌, subst, ℕ, zero, suc, Bool, true, false, List, []}
+use Rattle.std.proofs.Common.{◌≡◌, inl, inr, refl, ap, sym, ◌∙◌, subst, ℕ, zero, suc, Bool, true, false, List}
 use Rattle.c_tokens.specs.declared.token.Shape.{Shape}
-use Rattle.c_forms.specs.declared.pieces.Event.TheVariants as event
 use Rattle.c_forms.specs.declared.pieces.Sort.{Sort}
 use Rattle.c_forms.specs.declared.pieces.Sort.TheVariants as s
 use Rattle.c_forms.specs.declared.forms.Form.{Form}
@@ -11,14 +10,14 @@ use Rattle.c_forms.specs.declared.forms.DeclaratorForm.{DeclaratorForm}
 use Rattle.c_forms.specs.declared.forms.DeclaratorForm.TheVariants as declarator
 use Rattle.c_forms.specs.Forests.{Plain}
 use Rattle.c_forms.specs.Measures.{pieces}
-use Rattle.c_reader.specs.States.{State, Entry, AsValue, happens, parameters}
-use Rattle.c_reader.specs.Tokens.{Spot, step, turned}
+use Rattle.c_reader.specs.States.{State, AsValue, parameters}
+use Rattle.c_reader.specs.Tokens.{Spot, step}
 use Rattle.c_syntax.specs.Allowed.{places}
 use Rattle.c_syntax.specs.Reading.{Usual, is_starred}
-use Rattle.c_syntax.specs.Spells.{Spelling, Matches, IsNode, Wraps, At, InPlace, Spells, nothing_spelled, may_be, parts_spelled, after_name, started_by, has_no_specifiers}
+use Rattle.c_syntax.specs.Spells.{Spelling, Matches, IsNode, At, InPlace, Spells, nothing_spelled, may_be, parts_spelled, after_name, started_by, has_no_specifiers}
 use Rattle.spelled_trees.specs.Effects.{is_plain_sort}
-use Rattle.spelled_trees.specs.Scoped.{are_words, Grown, keeps_late, Scoped, Parametered}
-use Rattle.spelled_trees.proofs.Suits.{is_declarator, suits}
+use Rattle.spelled_trees.specs.Scoped.{are_words, Grown, Scoped, Parametered}
+use Rattle.spelled_trees.proofs.Suits.{is_declarator}
 use Rattle.spelled_trees.proofs.Rows.{Right, right}
 use Rattle.spelled_trees.proofs.Declarators.{pointer, array, function}
 use Rattle.spelled_trees.proofs.Valid.{Telling, Spelled, parts_tell}

@@ -1,5 +1,5 @@
 -- A row leaves each scope that it enters.
-use Rattle.std.proofs.Common.{◌≡◌, ◌⊎◌, inl, inr, refl, ap, sym, ◌∙◌, subst, ℕ, zero, suc, Bool, true, false, not, ◌&&◌, ◌||◌, List, [], ◌∷◌, ◌++◌, append_assoc, Option, Some, None}
+use Rattle.std.proofs.Common.{◌≡◌, inl, inr, refl, ap, sym, ◌∙◌, subst, ℕ, Bool, true, false, ◌||◌, List, [], ◌∷◌, ◌++◌, append_assoc, Option, Some, None}
 use Rattle.c_tokens.specs.declared.token.Shape.{Shape}
 use Rattle.c_forms.specs.declared.pieces.Event.{Event}
 use Rattle.c_forms.specs.declared.pieces.Event.TheVariants as event
@@ -15,9 +15,9 @@ use Rattle.c_forms.specs.declared.forms.ItemForm.TheVariants as item
 use Rattle.c_forms.specs.Forests.{Plain}
 use Rattle.c_forms.specs.Measures.{pieces}
 use Rattle.c_reader.specs.States.{State, Entry, Edge, AsType, AsValue, happens, outside, late_outside, declared, entry, parameters}
-use Rattle.c_reader.specs.Tokens.{Spot, step, turned}
+use Rattle.c_reader.specs.Tokens.{Spot, turned}
 use Rattle.c_syntax.specs.Reading.{Before, Usual, before_by, is_absent, inside}
-use Rattle.c_syntax.specs.Spells.{Spelling, IsGroup, Parted, IsList, Matches}
+use Rattle.c_syntax.specs.Spells.{Spelling, IsGroup, Matches}
 use Rattle.spelled_trees.specs.Effects.{is_plain_sort}
 use Rattle.spelled_trees.specs.Scoped.{are_words, Grown, keeps_late, Scoped, Parametered}
 use Rattle.spelled_trees.proofs.Parts.{left_of, right_of, group_fold}
@@ -78,8 +78,8 @@ Stands false es late now = Outside es late now
 
 pub left_again : (es : List Entry) (late : Bool) (now new : State) → new.entries ≡ outside now.entries → new.is_late ≡ late_outside now.entries → Inside es late now → Outside es late new
 left_again es late now new e l I = let w = I.entries.words in record {
-    entries = subst (λ x. Grown es x) (sym (e ∙ (ap outside I.entries.value ∙ outside_words w late I.rest I.entries.are))) I.around;
-    same = l ∙ (ap late_outside I.entries.value ∙ late_words w late I.rest I.entries.are)
+  entries = subst (λ x. Grown es x) (sym (e ∙ (ap outside I.entries.value ∙ outside_words w late I.rest I.entries.are))) I.around;
+  same = l ∙ (ap late_outside I.entries.value ∙ late_words w late I.rest I.entries.are);
 }
 
 grown_in : (b : Bool) (es : List Entry) (late : Bool) (now new : State) → Grown now.entries new.entries → new.is_late ≡ now.is_late → Stands b es late now → Stands b es late new
@@ -155,9 +155,9 @@ module _ (w : List Shape) (P : Spelling) (C : Scopes P) where
       let c = part_in s.Declarator false es late M.place.state D.place.state refl d.0 a in
       let x = D.place.state in let n = grown_declared AsValue (λ n. refl) x.kept.name x.entries in
       let o : Inside es late (happens event.Open x) = record {
-          rest = declared AsValue x.kept.name x.entries;
-          entries = subst (λ l. Grown (Edge l ∷ declared AsValue x.kept.name x.entries) (happens event.Open x).entries) c.same (record { words = parameters x.kept.near; are = d.1; value = refl });
-          around = grown_more c.entries n
+        rest = declared AsValue x.kept.name x.entries;
+        entries = subst (λ l. Grown (Edge l ∷ declared AsValue x.kept.name x.entries) (happens event.Open x).entries) c.same (record { words = parameters x.kept.near; are = d.1; value = refl });
+        around = grown_more c.entries n;
       } in
       let e = group_in s.Decl 0 true es late refl (Many None 0) (before_by (is_absent D.first)) L.is_first.0 (turned (happens event.Open) D.place) L.place L.is_first.1.1 o in
       let b = C s.Block 0 B.first L.place B.place (at_sort P own s.Block 0 B.first L.place B.place refl B.is_first) refl in

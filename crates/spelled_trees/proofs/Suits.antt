@@ -13,7 +13,7 @@ use Rattle.c_forms.specs.Measures.{pieces}
 use Rattle.c_forms.specs.declared.pieces.Event.{Event}
 use Rattle.c_forms.specs.declared.pieces.Event.TheVariants as event
 use Rattle.c_forms.specs.declared.pieces.Piece.{Piece}
-use Rattle.c_forms.specs.declared.pieces.Piece.TheVariants.{Token, Maybe, Own, TypeTokens, KindName, One, Group, Rest, Anything, Then}
+use Rattle.c_forms.specs.declared.pieces.Piece.TheVariants.{Token, Maybe, Own, One, Group, Then}
 use Rattle.c_syntax.specs.Reading.{inside}
 use Rattle.spelled_trees.specs.Scoped.{keeps_late}
 use Rattle.spelled_trees.specs.Effects.{is_plain_sort, Need, Anew, needs}

@@ -105,3 +105,7 @@ spelled_node d n w own least t i j N p M = (node_right (Unit {0}) (Spells d w) (
 pub spelled_node_lowest : (n : ℕ) (w : List Shape) (own : Sort) (least : ℕ) (t : Plain) (i j : Spot) → IsNode ⊥ nothing_spelled (InPlace n ⊥ nothing_spelled w) w own least t i j
     → is_plain_sort own ≡ true → Meets (needs own) i.state.kept → is_right t.form t.parts ≡ true
 spelled_node_lowest n w own least t i j N p M = (node_right ⊥ nothing_spelled (InPlace n ⊥ nothing_spelled w) w (nothing_telling w) (telling_in_place n ⊥ nothing_spelled w (nothing_telling w)) own least t i j N p M).right
+
+-- An external declaration, where no declaration has begun: after it none has begun either.
+pub spelled_item : (d : ℕ) (w : List Shape) (least : ℕ) (t : Plain) (i j : Spot) → Spells d w s.Item least t i j → IsNew i.state.kept → (valid_tree t ≡ true) × IsNew j.state.kept × (j.state.aside ≡ i.state.aside)
+spelled_item d w least t i j P N = let R = (telling d w).tells s.Item least t i j P refl N in (R.valid, R.leaves.kept, R.leaves.aside)
