@@ -188,7 +188,7 @@ abbrev pub before_by : Bool → Before
 before_by true = Missing
 before_by false = Taken
 
-abbrev has_none : List Plain → Bool
+abbrev pub has_none : List Plain → Bool
 has_none [] = true
 has_none (t ∷ ts) = false
 
