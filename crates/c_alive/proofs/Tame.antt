@@ -1,5 +1,5 @@
 -- Each loop of the grammar ends, since each turn of it takes a token.
-use Rattle.std.proofs.Common.{◌≡◌, ◌⊎◌, inl, inr, refl, subst, ap, sym, ◌∙◌, ℕ, zero, suc, ◌+◌, ◌-◌, ◌<◌, ◌≤◌, not, Bool, true, false, ◌&&◌, ◌||◌, nat_eq, nat_lt, List, [], ◌∷◌, length, Option, Some, None, Ok, Err, arith}
+use Rattle.std.proofs.Common.{◌≡◌, ◌⊎◌, inl, inr, refl, subst, ap, sym, ◌∙◌, ℕ, zero, suc, ◌+◌, ◌-◌, max, ◌<◌, ◌≤◌, not, Bool, true, false, ◌&&◌, ◌||◌, nat_eq, nat_lt, List, [], ◌∷◌, length, Option, Some, None, Ok, Err, arith}
 use Rattle.c_tokens.specs.declared.token.Shape.{Shape}
 use Rattle.c_tokens.specs.declared.token.Shape.TheVariants as shape
 use Rattle.c_tokens.specs.declared.token.Punct.{Punct}
@@ -23,6 +23,7 @@ use Rattle.c_forms.specs.declared.forms.SpecForm.{SpecForm}
 use Rattle.c_forms.specs.declared.forms.SpecForm.TheVariants as spec
 use Rattle.c_forms.specs.declared.forms.StmtForm.{StmtForm}
 use Rattle.c_forms.specs.declared.forms.StmtForm.TheVariants as stmt
+use Rattle.c_forms.specs.declared.forms.DeclaratorForm.{DeclaratorForm}
 use Rattle.c_forms.specs.declared.forms.DeclaratorForm.TheVariants as declarator
 use Rattle.c_forms.specs.declared.forms.ParamsForm.TheVariants as params
 use Rattle.c_forms.specs.declared.forms.InitForm.TheVariants as init
@@ -35,14 +36,14 @@ use Rattle.c_forms.specs.Tokens.{map_option, declarator_continued, begun, contin
 use Rattle.c_forms.specs.Sets.{Classes, has, starts, element_starts, goes_on_with}
 use Rattle.c_reader.specs.States.{State, Seen, is_function}
 use Rattle.c_reader.specs.Tokens.{Spot, seen_at}
-use Rattle.c_reader.specs.Readers.{Input, Reader, Turn, More, Last, Rule, Of, Opened, Body, Found, Give, Refuse, Look, Next, Pick, Note, Bind, Fits, Call, Loop, Ask, Change, read, here, choose, turn_while, repeat}
+use Rattle.c_reader.specs.Readers.{Input, Reader, Turn, More, Last, Rule, Of, Opened, Body, Found, Give, Refuse, Look, Next, Pick, Note, Bind, Fits, Call, Loop, Ask, Change, ◌>>◌, read, here, choose, token, turn_while, repeat}
 use Rattle.c_reader.proofs.Loops.{same_answer}
 use Rattle.c_reader.proofs.Sets.{both, either, itself, not_true}
 use Rattle.c_reader.proofs.Bounds.{Bounded, Tame}
 use Rattle.c_reader.proofs.Advance.{Takes, advances, the_end, in_tokens, bounded_while, grew}
 use Rattle.c_syntax.specs.Allowed.{may_happen, may_stand, has_name, places}
 use Rattle.c_syntax.specs.Reading.{Before, Usual, has_none, before_by, is_absent, ended, grouped, list_from, none_at, with_last, one, deeper, joined, node, Listed, Gathered, Parts, called, parts_by, parts_of, is_starred, is_class, separated, separator_of, goes, element_after, others, ended_turn, others_ended, many, at_most_one, any_number, is_missing, gathered_by, gathered, pieces_in, completed, inside, nothing}
-use Rattle.c_syntax.specs.Grammar.{body, whole, charged, is_sign, is_word, is_type_word, begins, Standing, standing, tight, entered, type_or, sized, begun_by, primary, expression, opened, parenthesized, after_paren, after_first, after_part, sized_opened, continued_by, is_tail, tail_by, turn, climb, the_declarator, may_be_absent, may_be_named, is_value, absent_at, parenthesized_sort, begins_parenthesized, nameless_function, is_nameable, opened_declarator, declarator_head, declarator_of, typed, parameters, initializer, label, id_leaf, name_leaf, word_led, type_led, typedef_leaf, block, function_from, declaration_of, declaration_from, outer_by, outer, specified, unspecified, external, goes_on_declaring, item_reader, typedef_of, spec_of, specifier_by, specifier, worded, statement_by, statement, late, declaration_at, type_first, block_item, at_sort, in_place}
+use Rattle.c_syntax.specs.Grammar.{body, sign, whole, charged, is_sign, is_word, is_type_word, begins, Standing, standing, tight, entered, type_or, sized, begun_by, primary, expression, opened, parenthesized, after_paren, after_first, after_part, sized_opened, continued_by, is_tail, tail_by, turn, climb, the_declarator, may_be_absent, may_be_named, is_value, absent_at, parenthesized_sort, begins_parenthesized, nameless_function, is_nameable, opened_declarator, declarator_head, declarator_of, typed, parameters, initializer, label, id_leaf, name_leaf, word_led, type_led, typedef_leaf, block, function_from, declaration_of, declaration_from, outer_by, outer, specified, unspecified, external, goes_on_declaring, item_reader, typedef_of, spec_of, specifier_by, specifier, worded, statement_by, statement, late, declaration_at, type_first, block_item, at_sort, in_place}
 
 -- the sorts each of whose trees has a token, as far as loops ask
 abbrev pub takes : Sort → Bool
@@ -589,3 +590,182 @@ module _ (inner : Parts) (F : Firmly inner) (T : Tamely inner) where
 tame_opened : Tame body opened
 unfolding opened
 tame_opened = λ i. (λ x. tame_choose (begins s.Exp x) (Fits 0 (standing 17 (parenthesized s.Exp))) Refuse (tame_parenthesized s.Exp, λ y. tt) tt, λ y. tame_climb s.Exp 15 (i.place - 1) y)
+
+-- ---- all sorts
+
+declarator_regular : (f : DeclaratorForm) → regular (pieces (form.Declarator f)) ≡ true
+declarator_regular declarator.Named = refl
+declarator_regular _ = refl
+
+module _ (inner : Parts) (F : Firmly inner) (T : Tamely inner) where
+  tame_nameless : (due : Sort) (i : ℕ) → Tame body (nameless_function due i)
+  tame_nameless due i = (tame_deeper due (the_declarator declarator.FunctionOf) i (one (deeper (absent_at i))) (after_first (after_first (pieces (the_declarator declarator.FunctionOf)))) refl, λ x. tt)
+
+  tame_opened_declarator : (due : Sort) (i : ℕ) → Tame body (opened_declarator due i)
+  tame_opened_declarator due i = tame_choose (is_nameable due) (standing 17 (parenthesized (parenthesized_sort due))) (Look (λ y. choose (begins_parenthesized y) (standing 17 (parenthesized due)) (nameless_function due i)))
+      (tame_parenthesized (parenthesized_sort due), λ x. tt)
+      (λ y. tame_choose (begins_parenthesized y) (standing 17 (parenthesized due)) (nameless_function due i) (tame_parenthesized due, λ x. tt) (tame_nameless due i))
+
+  tame_head : (due : Sort) (least : ℕ) → Tame body (declarator_head inner due least)
+  unfolding declarator_head
+  tame_head due least = λ i x. tame_choose (is_sign punct.LeftParen x) (opened_declarator due i.place) (starred i x) (tame_opened_declarator due i.place)
+      (tame_choose (is_sign punct.Star x) (tight least (the_declarator declarator.Pointer) (whole inner due (the_declarator declarator.Pointer))) (named i x)
+      (tame_tight least (the_declarator declarator.Pointer) (whole inner due (the_declarator declarator.Pointer)) (tame_whole inner F T due (the_declarator declarator.Pointer) refl))
+      (tame_choose (is_value x && may_be_named due) (standing 17 (whole inner due (the_declarator declarator.Named))) (absent i)
+      (tame_whole inner F T due (the_declarator declarator.Named) refl, λ y. tt)
+      (tame_choose (may_be_absent due) (Give (record { found = absent_at i.place; level = 17 })) Refuse tt tt)))
+    where
+      absent : Spot → Reader Standing
+      absent i = choose (may_be_absent due) (Give (record { found = absent_at i.place; level = 17 })) Refuse
+
+      named : Spot → Seen → Reader Standing
+      named i x = choose (is_value x && may_be_named due) (standing 17 (whole inner due (the_declarator declarator.Named))) (absent i)
+
+      starred : Spot → Seen → Reader Standing
+      starred i x = choose (is_sign punct.Star x) (tight least (the_declarator declarator.Pointer) (whole inner due (the_declarator declarator.Pointer))) (named i x)
+
+  tame_declarator : (due : Sort) (least : ℕ) → Tame body (declarator_of inner due least)
+  unfolding declarator_of
+  tame_declarator due least = λ i. (tame_head due least, λ y. tame_climb due least i.place y)
+
+  tame_specifier : (due : Sort) → ((x : Seen) → (o : Option SpecForm) × (begun due x.shape ≡ map_option form.Spec o)) → Tame body (specifier inner due)
+  unfolding specifier
+  tame_specifier due B = λ i x. tame_choose (begins due x) (specifier_by inner due i.state (spec_of due (is_type_word x) x)) Refuse (by_word i.state x (is_type_word x)) tt
+    where
+      by_form : (z : State) (o : Option SpecForm) → Tame body (specifier_by inner due z (map_option form.Spec o))
+      by_form z (Some f) = tame_choose (may_stand z (form.Spec f)) (whole inner due (form.Spec f)) Refuse (tame_whole inner F T due (form.Spec f) (spec_regular f)) tt
+      by_form z None = tt
+
+      by_type : (z : State) (x : Shape) → Tame body (specifier_by inner due z (typedef_of x))
+      by_type z (shape.Word w) = by_form z (Some (spec.Typedef w))
+      by_type z _ = tt
+
+      by_word : (z : State) (x : Seen) (b : Bool) → Tame body (specifier_by inner due z (spec_of due b x))
+      by_word z x true = by_type z x.shape
+      by_word z x false = subst (λ o. Tame body (specifier_by inner due z o)) (sym (B x).1) (by_form z (B x).0)
+
+  tame_typed : (i : ℕ) → Tame body (typed inner i)
+  tame_typed i = (
+    tame_gathered (Ended (sign punct.Comma) (sign punct.Ellipsis)) s.Param (inner s.Param 0) Usual refl (F s.Param 0) (T s.Param 0),
+    λ g. tame_choose g.1.is_ended (token (class_number (sign punct.Ellipsis)) >> Ask (λ j. Give (node (form.Params params.TypedAndMore) i j.place (one (list_from g.0 g.1)))))
+        (Ask (λ j. Give (node (form.Params params.Typed) i j.place (one (list_from g.0 g.1))))) (tt, λ _ j. tt) (λ j. tt),
+  )
+
+  tame_parameters : Tame body (parameters inner)
+  unfolding parameters
+  tame_parameters = λ i x. tame_choose (begins s.Spec x) (typed inner i.place) (choose (is_value x && not (has_name i.state)) Refuse (whole inner s.Params (form.Params params.Ids))) (tame_typed i.place)
+      (tame_choose (is_value x && not (has_name i.state)) Refuse (whole inner s.Params (form.Params params.Ids)) tt (tame_whole inner F T s.Params (form.Params params.Ids) refl))
+
+  tame_initializer : Tame body (initializer inner)
+  tame_initializer = λ x. tame_choose (is_sign punct.LeftBrace x) (whole inner s.Init (form.Init init.Braces)) (whole inner s.Init (form.Init init.One)) (tame_whole inner F T s.Init (form.Init init.Braces) refl) (tame_whole inner F T s.Init (form.Init init.One) refl)
+
+  tame_after : (own : Sort) (f : Form) (i : ℕ) (x : Found) → regular (after_first (pieces f)) ≡ true → Tame body (after_part inner own f i x)
+  tame_after own f i x h = tame_completed (parts_of f inner) (firm_parts f inner F) (tame_parts f inner T) own f i (one x) (after_first (pieces f)) h
+
+  tame_label : (i : ℕ) (x : Found) → Tame body (label i x)
+  tame_label i x = tame_completed (parts_of (form.Stmt stmt.Label) called) (firm_parts (form.Stmt stmt.Label) called firm_called) (tame_parts (form.Stmt stmt.Label) called tame_called) s.Stmt (form.Stmt stmt.Label) i (one (deeper x)) (after_first (pieces (form.Stmt stmt.Label))) refl
+
+  tame_word_led : (i : ℕ) (x : Seen) → Tame body (word_led inner i x)
+  tame_word_led i x = (tame_climb s.Exp 1 i (record { found = name_leaf i x.shape; level = 17 }), λ y. tame_after s.Stmt (form.Stmt stmt.Express) i y refl)
+
+  tame_worded : (i : ℕ) (x : Seen) → Tame body (worded inner i x)
+  unfolding worded
+  tame_worded i x = λ y. tame_choose (is_sign punct.Colon y) (label i (id_leaf i x.shape)) (choose (is_value x) (word_led inner i x) Refuse) (tame_label i (id_leaf i x.shape)) (tame_choose (is_value x) (word_led inner i x) Refuse (tame_word_led i x) tt)
+
+  tame_statement : Tame body (statement inner)
+  unfolding statement
+  tame_statement = λ i x. tame_choose (is_word x) (worded inner i.place x) (statement_by inner (begun s.Stmt x.shape)) (tame_worded i.place x) (by_form (stmt_begun x.shape))
+    where
+      by_form : (o : Option StmtForm) → Tame body (statement_by inner (map_option form.Stmt o))
+      by_form (Some f) = tame_whole inner F T s.Stmt (form.Stmt f) (stmt_regular f)
+      by_form None = tame_whole inner F T s.Stmt (form.Stmt stmt.Express) refl
+
+  tame_block : Tame body (block inner)
+  tame_block = λ x. tame_choose (is_sign punct.LeftBrace x) (whole inner s.Stmt (form.Stmt stmt.Block)) Refuse (tame_whole inner F T s.Stmt (form.Stmt stmt.Block) refl) tt
+
+  tame_list : (r : Repetition) (due : Sort) (g : Gathered) → is_loop r ≡ true → sound r due ≡ true → Tame body (others r due (inner due 0) g)
+  tame_list r due g l h = tame_others r due (inner due 0) g (bounded_group r due (inner due 0) l h (F due 0)) (T due 0)
+
+  tame_type_led : (i : ℕ) (x : Seen) → Tame body (type_led inner i x)
+  tame_type_led i x = (tame_list All s.Spec (with_last (none_at i) (typedef_leaf i x.shape) (i + 1)) refl refl, λ g. tame_after s.Decl form.Decl i (list_from i g) refl)
+
+  tame_type_first : (i : ℕ) (x : Seen) → Tame body (type_first inner i x)
+  unfolding type_first
+  tame_type_first i x = λ y. tame_choose (is_sign punct.Colon y) (late (label i (id_leaf i x.shape))) (type_led inner i x) (tame_label i (id_leaf i x.shape), λ x. tt) (tame_type_led i x)
+
+  tame_block_item : Tame body (block_item inner)
+  unfolding block_item
+  tame_block_item = λ i x. tame_choose (not i.state.is_late && begins s.Decl x) (declaration_at inner i.place x) (late (statement inner))
+      (tame_choose (is_type_word x) (type_first inner i.place x) (whole inner s.Decl form.Decl) (tame_type_first i.place x) (tame_whole inner F T s.Decl form.Decl refl)) (tame_statement, λ x. tt)
+
+  tame_function : (i : ℕ) (specs d : Found) → Tame body (function_from inner i specs d)
+  tame_function i specs d = tame_completed inner F T s.Item (form.Item item.Function) i (record { trees = specs.tree ∷ (d.tree ∷ []); height = max specs.height d.height }) (after_first (after_first (pieces (form.Item item.Function)))) refl
+
+  tame_declaration : (i : ℕ) (specs list : Found) → Tame body (declaration_of inner i specs list)
+  tame_declaration i specs list = (tame_completed inner F T s.Decl form.Decl i (record { trees = specs.tree ∷ (list.tree ∷ []); height = max specs.height list.height }) (after_first (after_first (pieces form.Decl))) refl, λ x j. tt)
+
+  tame_declaration_from : (i : ℕ) (specs : Found) (j : ℕ) (d : Found) → Tame body (declaration_from inner i specs j d)
+  tame_declaration_from i specs j d = (
+    tame_after s.InitDeclarator (form.Group group.InitDeclarator) j d refl,
+    λ x. (λ k. tame_list (Spliced (Some (sign punct.Comma)) 0) s.InitDeclarator (with_last (none_at j) x k.place) refl refl, λ g. tame_declaration i specs (list_from j g)),
+  )
+
+  tame_outer : (i : ℕ) (specs : Found) → Tame body (outer inner i specs)
+  tame_outer i specs = λ j. (T s.Declarator 1, λ d k y. tame_choose (k.state.kept.is_function_due || (is_function k.state && not (goes_on_declaring y))) (function_from inner i specs d) (declaration_from inner i specs j.place d) (tame_function i specs d) (tame_declaration_from i specs j.place d))
+
+  tame_external : Tame body (external inner)
+  unfolding external
+  tame_external = λ i x. tame_choose (begins s.Spec x) (specified inner i.place) (unspecified inner i.place)
+      (
+        (tame_gathered All s.Spec (inner s.Spec 0) Usual refl (F s.Spec 0) (T s.Spec 0), λ g. tt),
+        λ specs j y. tame_choose (is_sign punct.Semicolon y) (declaration_of inner i.place specs (list_from j.place (none_at j.place))) (outer inner i.place specs) (tame_declaration i.place specs (list_from j.place (none_at j.place))) (tame_outer i.place specs),
+      )
+      (tame_outer i.place (list_from i.place (none_at i.place)))
+
+  tame_at : Tamely (at_sort inner)
+  tame_at s.Exp least = tame_expression inner F T least
+  tame_at s.Declarator least = tame_declarator s.Declarator least
+  tame_at s.AbstractDeclarator least = tame_declarator s.AbstractDeclarator least
+  tame_at s.ParamDeclarator least = tame_declarator s.ParamDeclarator least
+  tame_at s.MemberName least = tame_declarator s.MemberName least
+  tame_at s.Id least = λ i. tt
+  tame_at s.DeclaredId least = λ i. tt
+  tame_at s.ParameterId least = (λ i. tt, λ x. tt)
+  tame_at s.EnumeratorId least = λ i. tt
+  tame_at s.Literal least = λ i. tt
+  tame_at s.Spec least = tame_specifier s.Spec (λ x. (spec_of_shape x.shape, refl))
+  tame_at s.PlainSpec least = tame_specifier s.PlainSpec (λ x. (spec_of_shape x.shape, refl))
+  tame_at s.Qualifier least = tame_specifier s.Qualifier (λ x. (spec_of_shape x.shape, refl))
+  tame_at s.TypeName least = tame_whole inner F T s.TypeName form.TypeName refl
+  tame_at s.Member least = tame_whole inner F T s.Member form.Member refl
+  tame_at s.Enumerator least = tame_whole inner F T s.Enumerator form.Enumerator refl
+  tame_at s.Params least = tame_parameters
+  tame_at s.Param least = tame_whole inner F T s.Param form.Param refl
+  tame_at s.Init least = tame_initializer
+  tame_at s.Decl least = tame_whole inner F T s.Decl form.Decl refl
+  tame_at s.Stmt least = tame_statement
+  tame_at s.Block least = tame_block
+  tame_at s.BlockItem least = tame_block_item
+  tame_at s.Item least = tame_external
+  tame_at s.InitDeclarator least = tame_whole inner F T s.InitDeclarator (form.Group group.InitDeclarator) refl
+  tame_at s.Initializer least = tame_whole inner F T s.Initializer (form.Group group.Initializer) refl
+  tame_at s.MemberDeclarator least = tame_whole inner F T s.MemberDeclarator (form.Group group.MemberDeclarator) refl
+  tame_at s.Width least = tame_whole inner F T s.Width (form.Group group.Width) refl
+  tame_at s.Members least = tame_whole inner F T s.Members (form.Group group.Members) refl
+  tame_at s.Enumerators least = tame_whole inner F T s.Enumerators (form.Group group.Enumerators) refl
+  tame_at s.EnumeratorValue least = tame_whole inner F T s.EnumeratorValue (form.Group group.EnumeratorValue) refl
+  tame_at s.ElsePart least = tame_whole inner F T s.ElsePart (form.Group group.ElsePart) refl
+  tame_at _ least = tt
+
+pub tame_in_place : (n : ℕ) → Tamely (in_place n)
+unfolding in_place
+tame_in_place zero due least = tt
+tame_in_place (suc n) due least = tame_at (in_place n) (firm_in_place n) (tame_in_place n) due least
+
+-- the loops of what each rule reads end
+pub bodies : (n : Rule) → Tame body (body n)
+bodies (Of due least) = tame_in_place places due least
+bodies Opened = tame_opened
+
+pub tame_item : Tame body item_reader
+tame_item = tame_in_place places s.Item 0
