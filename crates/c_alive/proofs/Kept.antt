@@ -37,14 +37,14 @@ use Rattle.c_forms.specs.Tokens.{map_option, declarator_continued, begun, contin
 use Rattle.c_forms.specs.Sets.{Classes, has, starts, element_starts, goes_on_with, held_class}
 use Rattle.c_reader.specs.States.{State, Seen, Kept, nothing_kept, seen, happens, noted, top, under, is_function}
 use Rattle.c_reader.specs.Tokens.{Spot, spot, seen_at}
-use Rattle.c_reader.specs.Readers.{Outcome, Input, Reader, Turn, More, Last, Rule, Of, Opened, Body, Found, Give, Refuse, Look, Next, Pick, Note, Bind, Fits, Call, Loop, Ask, Change, ◌>>◌, only, read, here, choose, token, turn_while, repeat}
+use Rattle.c_reader.specs.Readers.{Outcome, Input, Reader, Turn, More, Last, Rule, Of, Opened, Body, Found, Give, Refuse, Look, Next, Pick, Note, Bind, Fits, Call, Loop, Ask, Change, below, ◌>>=◌, ◌>>◌, only, read, here, choose, token, turn_while, repeat}
 use Rattle.c_reader.proofs.Leaves.{Leaves, Leaving, Turned, leaving_give, leaving_refuse, leaving_look, leaving_next, leaving_pick, leaving_note, leaving_bind, leaving_fits, leaving_ask, leaving_change, leaving_loop, leaving_more, leaving_choose, leaves_call}
 use Rattle.c_reader.proofs.Sets.{both, either, itself, not_true}
 use Rattle.c_reader.proofs.Bounds.{Bounded, Tame}
 use Rattle.c_reader.proofs.Advance.{Takes, advances, the_end, in_tokens, bounded_while, grew}
 use Rattle.c_syntax.specs.Allowed.{may_happen, may_stand, has_name, places}
 use Rattle.c_syntax.specs.Reading.{with_first, Before, Usual, has_none, before_by, is_absent, ended, grouped, list_from, none_at, with_last, one, deeper, joined, node, Listed, Gathered, Parts, called, parts_by, parts_of, is_starred, is_class, separated, separator_of, goes, element_after, others, ended_turn, others_ended, many, at_most_one, any_number, is_missing, gathered_by, gathered, pieces_in, completed, inside, nothing}
-use Rattle.c_syntax.specs.Grammar.{body, sign, whole, charged, is_sign, is_word, is_type_word, begins, Standing, standing, tight, entered, type_or, sized, begun_by, primary, expression, opened, parenthesized, after_paren, after_first, after_part, sized_opened, continued_by, is_tail, tail_by, turn, climb, the_declarator, may_be_absent, may_be_named, is_value, absent_at, parenthesized_sort, begins_parenthesized, nameless_function, is_nameable, opened_declarator, declarator_head, declarator_of, typed, parameters, initializer, label, id_leaf, name_leaf, word_led, type_led, typedef_leaf, block, function_from, declaration_of, declaration_from, outer_by, outer, specified, unspecified, external, goes_on_declaring, item_reader, typedef_of, spec_of, specifier_by, specifier, worded, statement_by, statement, late, declaration_at, type_first, block_item, at_sort, in_place}
+use Rattle.c_syntax.specs.Grammar.{leaf_if, literal_of, declared_identifier, literal, body, sign, whole, charged, is_sign, is_word, is_type_word, begins, Standing, standing, tight, entered, type_or, sized, begun_by, primary, expression, opened, parenthesized, after_paren, after_first, after_part, sized_opened, continued_by, is_tail, tail_by, turn, climb, the_declarator, may_be_absent, may_be_named, is_value, absent_at, parenthesized_sort, begins_parenthesized, nameless_function, is_nameable, opened_declarator, declarator_head, declarator_of, typed, parameters, initializer, label, id_leaf, name_leaf, word_led, type_led, typedef_leaf, block, function_from, declaration_of, declaration_from, outer_by, outer, specified, unspecified, external, goes_on_declaring, item_reader, typedef_of, spec_of, specifier_by, specifier, worded, statement_by, statement, late, declaration_at, type_first, block_item, at_sort, in_place}
 
 -- among the same declarations around, and no function's declarator is due
 abbrev pub Still : List Kept → State → Type 0
@@ -505,3 +505,218 @@ module _ (B : Rule → Input → Outcome Found) (d : ℕ) where
         where
           function_of : Reader Found
           function_of = completed called due (the_declarator declarator.FunctionOf) i (one (deeper (absent_at i))) (after_first (after_first (pieces (the_declarator declarator.FunctionOf))))
+
+      module _ (due : Sort) (self : is_item due ≡ false) (wrapped : is_item (parenthesized_sort due) ≡ false) (listed : is_item (inside due s.Params) ≡ false) (starred : calm due false (pieces (the_declarator declarator.Pointer)) ≡ true) (named : calm due false (pieces (the_declarator declarator.Named)) ≡ true) where
+        stays_opened : (i : ℕ) → Stays (opened_declarator due i)
+        stays_opened i = stays_fits 0 (Next by_kind) (stays_next by_kind (stays_choose (is_nameable due) (standing 17 (parenthesized (parenthesized_sort due))) (Look by_start) (stays_wrapped (parenthesized_sort due) wrapped)
+            (stays_look by_start (λ y. stays_choose (begins_parenthesized y) (standing 17 (parenthesized due)) (nameless_function due i) (stays_wrapped due self) (stays_nameless due listed i)))))
+          where
+            by_start : Seen → Reader Standing
+            by_start y = choose (begins_parenthesized y) (standing 17 (parenthesized due)) (nameless_function due i)
+
+            by_kind : Reader Standing
+            by_kind = choose (is_nameable due) (standing 17 (parenthesized (parenthesized_sort due))) (Look by_start)
+
+        stays_head : (least : ℕ) → Stays (declarator_head inner due least)
+        unfolding declarator_head
+        stays_head least = stays_ask (λ i. Look (by_paren i)) (λ i. stays_look (by_paren i) (λ x. stays_choose (is_sign punct.LeftParen x) (opened_declarator due i.place) (by_star i x) (stays_opened i.place)
+            (stays_choose (is_sign punct.Star x) pointer (by_name i x) (stays_tight least (the_declarator declarator.Pointer) (whole inner due (the_declarator declarator.Pointer)) (stays_whole inner I due (the_declarator declarator.Pointer) starred))
+            (stays_choose (is_value x && may_be_named due) (standing 17 (whole inner due (the_declarator declarator.Named))) (absent i)
+            (stays_map (whole inner due (the_declarator declarator.Named)) (λ x. record { found = x; level = 17 }) (stays_whole inner I due (the_declarator declarator.Named) named))
+            (stays_choose (may_be_absent due) (Give (record { found = absent_at i.place; level = 17 })) Refuse (stays_give _) stays_refuse)))))
+          where
+            absent : Spot → Reader Standing
+            absent i = choose (may_be_absent due) (Give (record { found = absent_at i.place; level = 17 })) Refuse
+
+            by_name : Spot → Seen → Reader Standing
+            by_name i x = choose (is_value x && may_be_named due) (standing 17 (whole inner due (the_declarator declarator.Named))) (absent i)
+
+            pointer : Reader Standing
+            pointer = tight least (the_declarator declarator.Pointer) (whole inner due (the_declarator declarator.Pointer))
+
+            by_star : Spot → Seen → Reader Standing
+            by_star i x = choose (is_sign punct.Star x) pointer (by_name i x)
+
+            by_paren : Spot → Seen → Reader Standing
+            by_paren i x = choose (is_sign punct.LeftParen x) (opened_declarator due i.place) (by_star i x)
+
+        stays_declarator : (least : ℕ) → Stays (declarator_of inner due least)
+        unfolding declarator_of
+        stays_declarator least = stays_ask (λ i. Bind (declarator_head inner due least) (λ y. climb due least i.place y)) (λ i. stays_bind (declarator_head inner due least) (λ y. climb due least i.place y) (stays_head least) (λ y. stays_climb due least i.place y))
+
+      -- ---- specifiers and parameters
+
+      stays_specifier : (due : Sort) → ((x : Seen) → (o : Option SpecForm) × (begun due x.shape ≡ map_option form.Spec o)) → Stays (specifier inner due)
+      unfolding specifier
+      stays_specifier due S = stays_ask (λ i. Look (by_start i)) (λ i. stays_look (by_start i) (λ x. stays_choose (begins due x) (specifier_by inner due i.state (spec_of due (is_type_word x) x)) Refuse (by_word i.state x (is_type_word x)) stays_refuse))
+        where
+          by_start : Spot → Seen → Reader Found
+          by_start i x = choose (begins due x) (specifier_by inner due i.state (spec_of due (is_type_word x) x)) Refuse
+
+          by_form : (z : State) (o : Option SpecForm) → Stays (specifier_by inner due z (map_option form.Spec o))
+          by_form z (Some f) = stays_choose (may_stand z (form.Spec f)) (whole inner due (form.Spec f)) Refuse (stays_whole inner I due (form.Spec f) (spec_calm due f)) stays_refuse
+          by_form z None = stays_refuse
+
+          by_type : (z : State) (x : Shape) → Stays (specifier_by inner due z (typedef_of x))
+          by_type z (shape.Word w) = by_form z (Some (spec.Typedef w))
+          by_type z _ = stays_refuse
+
+          by_word : (z : State) (x : Seen) (b : Bool) → Stays (specifier_by inner due z (spec_of due b x))
+          by_word z x true = by_type z x.shape
+          by_word z x false = subst (λ o. Stays (specifier_by inner due z o)) (sym (S x).1) (by_form z (S x).0)
+
+      stays_typed : (i : ℕ) → Stays (typed inner i)
+      stays_typed i = stays_bind (gathered (Ended (sign punct.Comma) (sign punct.Ellipsis)) s.Param (inner s.Param 0) Usual) by_end (stays_gathered (Ended (sign punct.Comma) (sign punct.Ellipsis)) s.Param (inner s.Param 0) Usual (I s.Param 0 refl))
+          (λ g. stays_choose g.1.is_ended (token (class_number (sign punct.Ellipsis)) >> Ask (more g)) (Ask (all g))
+          (stays_bind (token (class_number (sign punct.Ellipsis))) (λ _. Ask (more g)) (stays_pick (λ y. only (nat_eq y.class (class_number (sign punct.Ellipsis))))) (λ _. stays_ask (more g) (λ j. stays_give _))) (stays_ask (all g) (λ j. stays_give _)))
+        where
+          more : ℕ × Gathered → Spot → Reader Found
+          more g j = Give (node (form.Params params.TypedAndMore) i j.place (one (list_from g.0 g.1)))
+
+          all : ℕ × Gathered → Spot → Reader Found
+          all g j = Give (node (form.Params params.Typed) i j.place (one (list_from g.0 g.1)))
+
+          by_end : ℕ × Gathered → Reader Found
+          by_end g = choose g.1.is_ended (token (class_number (sign punct.Ellipsis)) >> Ask (more g)) (Ask (all g))
+
+      stays_parameters : Stays (parameters inner)
+      unfolding parameters
+      stays_parameters = stays_ask (λ i. Look (by_start i)) (λ i. stays_look (by_start i) (λ x. stays_choose (begins s.Spec x) (typed inner i.place) (by_name i x) (stays_typed i.place)
+          (stays_choose (is_value x && not (has_name i.state)) Refuse (whole inner s.Params (form.Params params.Ids)) stays_refuse (stays_whole inner I s.Params (form.Params params.Ids) refl))))
+        where
+          by_name : Spot → Seen → Reader Found
+          by_name i x = choose (is_value x && not (has_name i.state)) Refuse (whole inner s.Params (form.Params params.Ids))
+
+          by_start : Spot → Seen → Reader Found
+          by_start i x = choose (begins s.Spec x) (typed inner i.place) (by_name i x)
+
+      -- ---- statements
+
+      stays_late : (r : Reader Found) → Stays r → Stays (late r)
+      stays_late r R = stays_bind r (λ x. Change event.Statements (Give x)) R (λ x. stays_change event.Statements (Give x) (λ a z h. h) (stays_give x))
+
+      stays_label : (i : ℕ) (x : Found) → Stays (label i x)
+      stays_label i x = stays_fits 0 (after_part called s.Stmt (form.Stmt stmt.Label) i (deeper x)) (stays_after called stays_called s.Stmt (form.Stmt stmt.Label) i (one (deeper x)) (after_first (pieces (form.Stmt stmt.Label))) refl)
+
+      stays_word_led : (i : ℕ) (x : Seen) → Stays (word_led inner i x)
+      stays_word_led i x = stays_bind (climb s.Exp 1 i (record { found = name_leaf i x.shape; level = 17 })) (λ y. after_part inner s.Stmt (form.Stmt stmt.Express) i y) (stays_climb s.Exp 1 i (record { found = name_leaf i x.shape; level = 17 }))
+          (λ y. stays_after inner I s.Stmt (form.Stmt stmt.Express) i (one y) (after_first (pieces (form.Stmt stmt.Express))) refl)
+
+      stays_worded : (i : ℕ) (x : Seen) → Stays (worded inner i x)
+      unfolding worded
+      stays_worded i x = stays_next (Look by_colon) (stays_look by_colon (λ y. stays_choose (is_sign punct.Colon y) (label i (id_leaf i x.shape)) (choose (is_value x) (word_led inner i x) Refuse) (stays_label i (id_leaf i x.shape)) (stays_choose (is_value x) (word_led inner i x) Refuse (stays_word_led i x) stays_refuse)))
+        where
+          by_colon : Seen → Reader Found
+          by_colon y = choose (is_sign punct.Colon y) (label i (id_leaf i x.shape)) (choose (is_value x) (word_led inner i x) Refuse)
+
+      stays_statement : Stays (statement inner)
+      unfolding statement
+      stays_statement = stays_ask (λ i. Look (by_word i)) (λ i. stays_look (by_word i) (λ x. stays_choose (is_word x) (worded inner i.place x) (statement_by inner (begun s.Stmt x.shape)) (stays_worded i.place x) (by_form (stmt_begun x.shape))))
+        where
+          by_word : Spot → Seen → Reader Found
+          by_word i x = choose (is_word x) (worded inner i.place x) (statement_by inner (begun s.Stmt x.shape))
+
+          by_form : (o : Option StmtForm) → Stays (statement_by inner (map_option form.Stmt o))
+          by_form (Some f) = stays_whole inner I s.Stmt (form.Stmt f) (stmt_calm f)
+          by_form None = stays_whole inner I s.Stmt (form.Stmt stmt.Express) refl
+
+      stays_type_first : (i : ℕ) (x : Seen) → Stays (type_first inner i x)
+      unfolding type_first
+      stays_type_first i x = stays_next (Look by_colon) (stays_look by_colon (λ y. stays_choose (is_sign punct.Colon y) (late (label i (id_leaf i x.shape))) (type_led inner i x) (stays_late (label i (id_leaf i x.shape)) (stays_label i (id_leaf i x.shape)))
+          (stays_change event.SoleType (others All s.Spec (inner s.Spec 0) front >>= after) (λ a z h. h) (stays_bind (others All s.Spec (inner s.Spec 0) front) after (stays_others All s.Spec (inner s.Spec 0) front (I s.Spec 0 refl)) (λ g. stays_after inner I s.Decl form.Decl i (one (list_from i g)) (after_first (pieces form.Decl)) refl)))))
+        where
+          front : Gathered
+          front = with_last (none_at i) (typedef_leaf i x.shape) (i + 1)
+
+          after : Gathered → Reader Found
+          after g = after_part inner s.Decl form.Decl i (list_from i g)
+
+          by_colon : Seen → Reader Found
+          by_colon y = choose (is_sign punct.Colon y) (late (label i (id_leaf i x.shape))) (type_led inner i x)
+
+      stays_block_item : Stays (block_item inner)
+      unfolding block_item
+      stays_block_item = stays_ask (λ i. Look (by_start i)) (λ i. stays_look (by_start i) (λ x. stays_choose (not i.state.is_late && begins s.Decl x) (declaration_at inner i.place x) (late (statement inner))
+          (stays_choose (is_type_word x) (type_first inner i.place x) (whole inner s.Decl form.Decl) (stays_type_first i.place x) (stays_whole inner I s.Decl form.Decl refl)) (stays_late (statement inner) stays_statement)))
+        where
+          by_start : Spot → Seen → Reader Found
+          by_start i x = choose (not i.state.is_late && begins s.Decl x) (declaration_at inner i.place x) (late (statement inner))
+
+      stays_leaf : (f : Spot → Seen → Option Found) → Stays (Ask (λ i. Pick (f i)))
+      stays_leaf f = stays_ask (λ i. Pick (f i)) (λ i. stays_pick (f i))
+
+      stays_noted : (f : Spot → Seen → Option Found) → Stays (Ask (λ i. Note (f i)))
+      stays_noted f = stays_ask (λ i. Note (f i)) (λ i. stays_note (f i))
+
+      -- all sorts but items
+      stays_at : Staying (at_sort inner)
+      stays_at s.Exp least h = stays_expression least
+      stays_at s.Declarator least h = stays_declarator s.Declarator refl refl refl refl refl least
+      stays_at s.AbstractDeclarator least h = stays_declarator s.AbstractDeclarator refl refl refl refl refl least
+      stays_at s.ParamDeclarator least h = stays_declarator s.ParamDeclarator refl refl refl refl refl least
+      stays_at s.MemberName least h = stays_declarator s.MemberName refl refl refl refl refl least
+      stays_at s.Id least h = stays_leaf (λ i x. leaf_if (is_word x) form.Id i.place x)
+      stays_at s.DeclaredId least h = stays_noted (λ i x. leaf_if (is_value x) form.Id i.place x)
+      stays_at s.ParameterId least h = stays_bind declared_identifier (λ x. Change event.DeclareValue (Give x)) (stays_noted (λ i x. leaf_if (is_value x) form.Id i.place x)) (λ x. stays_change event.DeclareValue (Give x) (λ a z h. h) (stays_give x))
+      stays_at s.EnumeratorId least h = stays_noted (λ i x. leaf_if (is_word x) form.Id i.place x)
+      stays_at s.Literal least h = stays_leaf (λ i x. literal_of x.shape i.place)
+      stays_at s.Spec least h = stays_specifier s.Spec (λ x. (spec_of_shape x.shape, refl))
+      stays_at s.PlainSpec least h = stays_specifier s.PlainSpec (λ x. (spec_of_shape x.shape, refl))
+      stays_at s.Qualifier least h = stays_specifier s.Qualifier (λ x. (spec_of_shape x.shape, refl))
+      stays_at s.TypeName least h = stays_whole inner I s.TypeName form.TypeName refl
+      stays_at s.Member least h = stays_whole inner I s.Member form.Member refl
+      stays_at s.Enumerator least h = stays_whole inner I s.Enumerator form.Enumerator refl
+      stays_at s.Params least h = stays_parameters
+      stays_at s.Param least h = stays_whole inner I s.Param form.Param refl
+      stays_at s.Init least h = stays_look (λ x. choose (is_sign punct.LeftBrace x) (whole inner s.Init (form.Init init.Braces)) (whole inner s.Init (form.Init init.One)))
+          (λ x. stays_choose (is_sign punct.LeftBrace x) (whole inner s.Init (form.Init init.Braces)) (whole inner s.Init (form.Init init.One)) (stays_whole inner I s.Init (form.Init init.Braces) refl) (stays_whole inner I s.Init (form.Init init.One) refl))
+      stays_at s.Decl least h = stays_whole inner I s.Decl form.Decl refl
+      stays_at s.Stmt least h = stays_statement
+      stays_at s.Block least h = stays_look (λ x. choose (is_sign punct.LeftBrace x) (whole inner s.Stmt (form.Stmt stmt.Block)) Refuse) (λ x. stays_choose (is_sign punct.LeftBrace x) (whole inner s.Stmt (form.Stmt stmt.Block)) Refuse (stays_whole inner I s.Stmt (form.Stmt stmt.Block) refl) stays_refuse)
+      stays_at s.BlockItem least h = stays_block_item
+      stays_at s.Item least h = absurd (cc h)
+      stays_at s.InitDeclarator least h = stays_whole inner I s.InitDeclarator (form.Group group.InitDeclarator) refl
+      stays_at s.Initializer least h = stays_whole inner I s.Initializer (form.Group group.Initializer) refl
+      stays_at s.MemberDeclarator least h = stays_whole inner I s.MemberDeclarator (form.Group group.MemberDeclarator) refl
+      stays_at s.Width least h = stays_whole inner I s.Width (form.Group group.Width) refl
+      stays_at s.Members least h = stays_whole inner I s.Members (form.Group group.Members) refl
+      stays_at s.Enumerators least h = stays_whole inner I s.Enumerators (form.Group group.Enumerators) refl
+      stays_at s.EnumeratorValue least h = stays_whole inner I s.EnumeratorValue (form.Group group.EnumeratorValue) refl
+      stays_at s.ElsePart least h = stays_whole inner I s.ElsePart (form.Group group.ElsePart) refl
+      stays_at _ least h = stays_refuse
+
+    pub stays_in_place : (n : ℕ) → Staying (in_place n)
+    unfolding in_place
+    stays_in_place zero due least h = stays_refuse
+    stays_in_place (suc n) due least h = stays_at (in_place n) (stays_in_place n) due least h
+
+    stays_after_sizeof : Stays opened
+    unfolding opened
+    stays_after_sizeof = stays_ask begun_so (λ i. stays_bind (Look by_start) (climbing i) (stays_look by_start (λ x. stays_choose (begins s.Exp x) (Fits 0 (standing 17 (parenthesized s.Exp))) Refuse (stays_fits 0 (standing 17 (parenthesized s.Exp)) (stays_wrapped s.Exp refl)) stays_refuse)) (λ y. stays_climb s.Exp 15 (i.place - 1) y))
+      where
+        by_start : Seen → Reader Standing
+        by_start x = choose (begins s.Exp x) (Fits 0 (standing 17 (parenthesized s.Exp))) Refuse
+
+        climbing : Spot → Standing → Reader Found
+        climbing i y = climb s.Exp 15 (i.place - 1) y
+
+        begun_so : Spot → Reader Found
+        begun_so i = Bind (Look by_start) (climbing i)
+
+    stays_body : (n : Rule) → is_called n ≡ true → Stays (body n)
+    stays_body (Of due least) h = stays_in_place places due least (not_true (is_item due) h)
+    stays_body Opened h = stays_after_sizeof
+
+-- what a rule that is called keeps
+abbrev pub KeptBy : Rule → State → Shape → Found → State → Type 0
+KeptBy n z y x t = is_called n ≡ true → z.kept.is_function_due ≡ false → Still z.aside t
+
+stays_call : (B : Rule → Input → Outcome Found) (d : ℕ) → ((n : Rule) (z : State) (y : Shape) → Leaving B d z y (Call n) (KeptBy n z y)) → (n : Rule) → is_called n ≡ true → Stays B d (Call n)
+stays_call B d C n h a z y k = leaving_more B d z y (Call n) (KeptBy n z y) (λ _ t. Still a t) (λ x t m. let r = m h k.1 in (r.0 ∙ k.0, r.1)) (C n z y)
+
+pub kept_call : (n : Rule) (z : State) (y : Shape) → Leaves body z y (Call n) (KeptBy n z y)
+kept_call = leaves_call body KeptBy (λ B d C n z y i e f x j h c g. stays_body B d (stays_call B d C) n c z.aside z y (refl, g) i e f x j h)
+
+-- each reader of a sort in place keeps to it
+pub kept_in_place : (n : ℕ) (due : Sort) (least : ℕ) (a : List Kept) (z : State) (y : Shape) → is_item due ≡ false → Still a z → Leaves body z y (in_place n due least) (λ _ t. Still a t)
+kept_in_place n due least a z y h k d = stays_in_place (below body d) d (stays_call (below body d) d (λ n z y. kept_call n z y d)) n due least h a z y k

@@ -89,7 +89,7 @@ abbrev pub leaf_if : Bool → (Word → Form) → ℕ → Seen → Option Found
 leaf_if true f i x = leaf_of f i (word_of x.shape)
 leaf_if false f i x = None
 
-abbrev literal_of : Shape → ℕ → Option Found
+abbrev pub literal_of : Shape → ℕ → Option Found
 literal_of (shape.Str word) i = Some (node (form.Literal word) i (i + 1) nothing)
 literal_of _ i = None
 
