@@ -1,2 +1,4 @@
 pub mod Tame
 pub mod Kept
+pub mod Groups
+pub mod Phrased
