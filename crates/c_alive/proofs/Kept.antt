@@ -65,14 +65,14 @@ Within false a z = Still a z
 Within true a z = (k : Kept) × ((k.is_function_due ≡ false) × Still (k ∷ a) z)
 
 -- whether an event may happen with one put aside or none
-abbrev allowed : Event → Bool → Bool
+abbrev pub allowed : Event → Bool → Bool
 allowed event.Aside b = not b
 allowed event.Resume b = b
 allowed event.Close b = b
 allowed event.FunctionDue b = false
 allowed _ b = true
 
-abbrev pending : Event → Bool → Bool
+abbrev pub pending : Event → Bool → Bool
 pending event.Aside b = true
 pending event.Resume b = false
 pending event.Close b = false
@@ -86,7 +86,7 @@ new_within : (b : Bool) (a : List Kept) (z t : State) → z.aside ≡ t.aside �
 new_within false a z t e f W = (e ∙ W.0, f)
 new_within true a z t e f W = (W.0, (W.1.0, (e ∙ W.1.1.0, f)))
 
-event_within : (e : Event) (b : Bool) (a : List Kept) (z : State) → allowed e b ≡ true → Within b a z → Within (pending e b) a (happens e z)
+pub event_within : (e : Event) (b : Bool) (a : List Kept) (z : State) → allowed e b ≡ true → Within b a z → Within (pending e b) a (happens e z)
 event_within event.Aside true a z h W = absurd (cc h)
 event_within event.Aside false a z h W = (z.kept, (W.1, (ap (λ l. z.kept ∷ l) W.0, refl)))
 event_within event.Resume false a z h W = absurd (cc h)

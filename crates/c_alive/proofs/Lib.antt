@@ -2,3 +2,4 @@ pub mod Tame
 pub mod Kept
 pub mod Groups
 pub mod Phrased
+pub mod Rows
