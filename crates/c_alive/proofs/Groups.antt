@@ -1,19 +1,17 @@
 -- Groups can be completed: after a separator by an element, and after an element by nothing more.
-use Rattle.std.proofs.Common.{◌≡◌, refl, sym, ◌∙◌, ℕ, Bool, true, false, nat_eq, List, [], ◌∷◌, Option, Some, None}
+use Rattle.std.proofs.Common.{◌≡◌, sym, ◌∙◌, ℕ, true, false, List, [], Option, Some, None}
 use Rattle.c_tokens.specs.declared.token.Shape.{Shape}
 use Rattle.c_tokens.specs.declared.class.Class.{Class}
 use Rattle.c_forms.specs.declared.pieces.Sort.{Sort}
 use Rattle.c_forms.specs.declared.pieces.Repetition.{Repetition}
-use Rattle.c_forms.specs.declared.pieces.Repetition.TheVariants.{Optional, Greedy, Due, All, Any, Many, Spliced, Ended}
-use Rattle.c_forms.specs.Sets.{Classes, has, starts, element_starts, goes_on_with}
-use Rattle.c_reader.specs.States.{State, Kept, Seen, seen, class}
-use Rattle.c_reader.specs.Tokens.{Spot, spot}
-use Rattle.c_reader.specs.Readers.{Reader, Turn, More, Last, Found, Give, Look, Next, Bind, Loop, Ask, below, choose, turn_while, repeat}
+use Rattle.c_forms.specs.Sets.{Classes, has, element_starts, goes_on_with}
+use Rattle.c_reader.specs.States.{State, Kept, class}
+use Rattle.c_reader.specs.Readers.{Reader, Found, Give, Bind, Ask, below, choose, turn_while}
 use Rattle.c_reader.proofs.Bounds.{Bounded}
-use Rattle.c_reader.proofs.Leaves.{Leaves, anyhow, leaves_anyhow, leaves_repeat, leaving_bind, leaving_ask, leaving_give, leaving_next}
-use Rattle.c_reader.proofs.Phrases.{Tokens, Finishes, Way, Opens, fin_give, fin_ask, fin_bind, fin_last, fin_map, fin_over, fin_look_past, fin_choose}
-use Rattle.c_reader.proofs.Live.{Calls, Live, live_bind, live_choose, live_map, live_next, live_repeat}
-use Rattle.c_syntax.specs.Reading.{Gathered, none_at, with_last, separated, separator_of, goes, element_after, others, many, at_most_one, any_number}
+use Rattle.c_reader.proofs.Leaves.{Leaves, anyhow, leaves_anyhow, leaving_bind, leaving_ask, leaving_give, leaving_next}
+use Rattle.c_reader.proofs.Phrases.{Tokens, Finishes, fin_give, fin_ask, fin_last, fin_over, fin_look_past, fin_choose}
+use Rattle.c_reader.proofs.Live.{Calls, Live, live_bind, live_choose, live_next, live_repeat}
+use Rattle.c_syntax.specs.Reading.{Gathered, none_at, with_last, separated, separator_of, goes, element_after, others, at_most_one}
 use Rattle.c_syntax.specs.Grammar.{body}
 use Rattle.c_alive.proofs.Kept.{Still}
 

@@ -1,5 +1,5 @@
 -- What each reader of the grammar keeps: the declarations around, and that no function's declarator is due.
-use Rattle.std.proofs.Common.{◌≡◌, ◌⊎◌, inl, inr, refl, subst, ap, sym, ◌∙◌, ℕ, zero, suc, ◌+◌, ◌-◌, max, ◌<◌, ◌≤◌, not, Bool, true, false, ◌&&◌, ◌||◌, nat_eq, nat_lt, List, [], ◌∷◌, length, Option, Some, None, Ok, Err, arith}
+use Rattle.std.proofs.Common.{◌≡◌, refl, subst, ap, sym, ◌∙◌, ℕ, zero, suc, ◌+◌, ◌-◌, not, Bool, true, false, ◌&&◌, nat_eq, nat_lt, List, [], ◌∷◌, Option, Some, None}
 use Rattle.c_tokens.specs.declared.token.Shape.{Shape}
 use Rattle.c_tokens.specs.declared.token.Shape.TheVariants as shape
 use Rattle.c_tokens.specs.declared.token.Punct.{Punct}
@@ -24,27 +24,23 @@ use Rattle.c_forms.specs.declared.forms.SpecForm.{SpecForm}
 use Rattle.c_forms.specs.declared.forms.SpecForm.TheVariants as spec
 use Rattle.c_forms.specs.declared.forms.StmtForm.{StmtForm}
 use Rattle.c_forms.specs.declared.forms.StmtForm.TheVariants as stmt
-use Rattle.c_forms.specs.declared.forms.DeclaratorForm.{DeclaratorForm}
 use Rattle.c_forms.specs.declared.forms.DeclaratorForm.TheVariants as declarator
 use Rattle.c_forms.specs.declared.forms.ParamsForm.TheVariants as params
 use Rattle.c_forms.specs.declared.forms.InitForm.TheVariants as init
-use Rattle.c_forms.specs.declared.forms.ItemForm.TheVariants as item
 use Rattle.c_forms.specs.declared.forms.GroupForm.TheVariants as group
 use Rattle.c_forms.specs.declared.operators.StorageClass.TheVariants as storage
 use Rattle.c_forms.specs.declared.operators.BinaryOperator.TheVariants as operator
 use Rattle.c_forms.specs.Measures.{level, pieces}
-use Rattle.c_forms.specs.Tokens.{map_option, declarator_continued, begun, continued, exp_begun, spec_of_shape, stmt_begun}
-use Rattle.c_forms.specs.Sets.{Classes, has, starts, element_starts, goes_on_with, held_class}
-use Rattle.c_reader.specs.States.{State, Seen, Kept, nothing_kept, seen, happens, noted, top, under, is_function}
-use Rattle.c_reader.specs.Tokens.{Spot, spot, seen_at}
-use Rattle.c_reader.specs.Readers.{Outcome, Input, Reader, Turn, More, Last, Rule, Of, Opened, Body, Found, Give, Refuse, Look, Next, Pick, Note, Bind, Fits, Call, Loop, Ask, Change, below, ◌>>=◌, ◌>>◌, only, read, here, choose, token, turn_while, repeat}
+use Rattle.c_forms.specs.Tokens.{map_option, begun, continued, exp_begun, spec_of_shape, stmt_begun}
+use Rattle.c_forms.specs.Sets.{has, starts, element_starts, held_class}
+use Rattle.c_reader.specs.States.{State, Seen, Kept, seen, happens, top, under}
+use Rattle.c_reader.specs.Tokens.{Spot, spot}
+use Rattle.c_reader.specs.Readers.{Outcome, Input, Reader, Turn, More, Last, Rule, Of, Opened, Found, Give, Refuse, Look, Next, Pick, Note, Bind, Fits, Call, Loop, Ask, Change, below, ◌>>=◌, ◌>>◌, only, choose, token, turn_while, repeat}
 use Rattle.c_reader.proofs.Leaves.{Leaves, Leaving, Turned, leaving_give, leaving_refuse, leaving_look, leaving_next, leaving_pick, leaving_note, leaving_bind, leaving_fits, leaving_ask, leaving_change, leaving_loop, leaving_more, leaving_choose, leaves_call}
-use Rattle.c_reader.proofs.Sets.{both, either, itself, not_true}
-use Rattle.c_reader.proofs.Bounds.{Bounded, Tame}
-use Rattle.c_reader.proofs.Advance.{Takes, advances, the_end, in_tokens, bounded_while, grew}
+use Rattle.c_reader.proofs.Sets.{both, not_true}
 use Rattle.c_syntax.specs.Allowed.{may_happen, may_stand, has_name, places}
-use Rattle.c_syntax.specs.Reading.{with_first, Before, Usual, has_none, before_by, is_absent, ended, grouped, list_from, none_at, with_last, one, deeper, joined, node, Listed, Gathered, Parts, called, parts_by, parts_of, is_starred, is_class, separated, separator_of, goes, element_after, others, ended_turn, others_ended, many, at_most_one, any_number, is_missing, gathered_by, gathered, pieces_in, completed, inside, nothing}
-use Rattle.c_syntax.specs.Grammar.{leaf_if, literal_of, declared_identifier, literal, body, sign, whole, charged, is_sign, is_word, is_type_word, begins, Standing, standing, tight, entered, type_or, sized, begun_by, primary, expression, opened, parenthesized, after_paren, after_first, after_part, sized_opened, continued_by, is_tail, tail_by, turn, climb, the_declarator, may_be_absent, may_be_named, is_value, absent_at, parenthesized_sort, begins_parenthesized, nameless_function, is_nameable, opened_declarator, declarator_head, declarator_of, typed, parameters, initializer, label, id_leaf, name_leaf, word_led, type_led, typedef_leaf, block, function_from, declaration_of, declaration_from, outer_by, outer, specified, unspecified, external, goes_on_declaring, item_reader, typedef_of, spec_of, specifier_by, specifier, worded, statement_by, statement, late, declaration_at, type_first, block_item, at_sort, in_place}
+use Rattle.c_syntax.specs.Reading.{with_first, Before, Usual, has_none, before_by, is_absent, ended, list_from, none_at, with_last, one, deeper, joined, node, Listed, Gathered, Parts, called, parts_by, parts_of, is_starred, is_class, separated, separator_of, goes, element_after, others, ended_turn, others_ended, many, at_most_one, any_number, is_missing, gathered_by, gathered, pieces_in, completed, inside, nothing}
+use Rattle.c_syntax.specs.Grammar.{leaf_if, literal_of, declared_identifier, body, sign, whole, charged, is_sign, is_word, is_type_word, begins, Standing, standing, tight, entered, type_or, sized, begun_by, primary, expression, opened, parenthesized, after_paren, after_first, after_part, sized_opened, continued_by, is_tail, tail_by, turn, climb, the_declarator, may_be_absent, may_be_named, is_value, absent_at, parenthesized_sort, begins_parenthesized, nameless_function, is_nameable, opened_declarator, declarator_head, declarator_of, typed, parameters, label, id_leaf, name_leaf, word_led, type_led, typedef_leaf, typedef_of, spec_of, specifier_by, specifier, worded, statement_by, statement, late, declaration_at, type_first, block_item, at_sort, in_place}
 
 -- among the same declarations around, and no function's declarator is due
 abbrev pub Still : List Kept → State → Type 0

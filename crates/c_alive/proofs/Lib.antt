@@ -3,3 +3,4 @@ pub mod Kept
 pub mod Groups
 pub mod Phrased
 pub mod Rows
+pub mod FitRows

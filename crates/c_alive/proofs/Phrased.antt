@@ -1,5 +1,5 @@
 -- The phrase that completes each sort and the pieces of a row, and what may follow them.
-use Rattle.std.proofs.Common.{◌≡◌, ◌⊎◌, inl, inr, refl, ap, sym, ◌∙◌, ℕ, suc, not, Bool, true, false, ◌&&◌, ◌||◌, nat_eq, List, [], ◌∷◌, ◌++◌, Option, Some, None}
+use Rattle.std.proofs.Common.{◌≡◌, refl, ap, ℕ, suc, not, Bool, true, false, ◌&&◌, nat_eq, List, [], ◌∷◌, ◌++◌}
 use Rattle.std.proofs.lemmas.Bool.{or_parts, or_from}
 use Rattle.c_tokens.specs.declared.token.Shape.{Shape}
 use Rattle.c_tokens.specs.declared.token.Shape.TheVariants as shape
@@ -11,17 +11,17 @@ use Rattle.c_tokens.specs.ClassNumbers.{class_number}
 use Rattle.c_forms.specs.declared.pieces.Sort.{Sort}
 use Rattle.c_forms.specs.declared.pieces.Sort.TheVariants as s
 use Rattle.c_forms.specs.declared.pieces.Repetition.{Repetition}
-use Rattle.c_forms.specs.declared.pieces.Repetition.TheVariants.{Optional, Greedy, Due, All, Any, Many, Spliced, Ended}
+use Rattle.c_forms.specs.declared.pieces.Repetition.TheVariants.{Due, All, Many, Spliced, Ended}
 use Rattle.c_forms.specs.declared.pieces.Piece.{Piece}
-use Rattle.c_forms.specs.declared.pieces.Piece.TheVariants.{Token, Maybe, Own, TypeTokens, KindName, One, Group, Rest, Anything, Then}
-use Rattle.c_forms.specs.Sets.{Classes, has, within, type_word, goes_on}
+use Rattle.c_forms.specs.declared.pieces.Piece.TheVariants.{Token, One, Group}
+use Rattle.c_forms.specs.Sets.{Classes, has, within, type_word}
 use Rattle.c_reader.specs.States.{State, seen, happens}
 use Rattle.c_reader.specs.Tokens.{spot}
-use Rattle.c_reader.specs.Readers.{Reader, Turn, Rule, Body, Give, Refuse, Look, Next, Pick, Note, Bind, Fits, Call, Loop, Ask, Change, token}
-use Rattle.c_reader.proofs.Sets.{both, not_true, not_both, within_lacks, contrary}
+use Rattle.c_reader.specs.Readers.{Reader, Body, Give, Refuse, Look, Next, Pick, Note, Bind, Fits, Call, Loop, Ask, Change}
+use Rattle.c_reader.proofs.Sets.{not_true, within_lacks}
 use Rattle.c_reader.proofs.Seen.{word, written, blur}
 use Rattle.c_reader.proofs.Leaves.{Turned}
-use Rattle.c_reader.proofs.Phrases.{Tokens, but, Opens, Finishes, Way, Phrase, Begun, fin_fewer, fin_token, begun_fewer, opens_but, opens_past}
+use Rattle.c_reader.proofs.Phrases.{Tokens, but, Opens, fin_fewer, begun_fewer, opens_but}
 use Rattle.c_reader.proofs.Live.{Calls, Live}
 use Rattle.c_syntax.specs.Reading.{inside}
 
@@ -120,9 +120,25 @@ live_fewer body calls deep z y P Q J (Look f) up L = live_fewer body calls deep 
 live_fewer body calls deep z y P Q J (Next r) up L = (record { tokens = L.0.tokens; finishes = fin_fewer body z P Q J J r L.0.tokens up (λ a t k. k) L.0.finishes }, λ x. live_fewer body calls deep z x P Q J r up (L.1 x))
 live_fewer body calls deep z y P Q J (Pick f) up L = L
 live_fewer body calls deep z y P Q J (Note f) up L = L
-live_fewer body calls deep z y P Q J (Bind r f) up L = (L.0, (L.1.0, (L.1.1.0, (L.1.1.1.0, (L.1.1.1.1.0,
-    (record { tokens = L.1.1.1.1.1.0.tokens; opens = fewer_opens L.0 P Q L.1.1.1.1.1.0.tokens up L.1.1.1.1.1.0.opens; finishes = λ b t k. fin_fewer body t P Q J J (f b) L.1.1.1.1.1.0.tokens up (λ a t k. k) (L.1.1.1.1.1.0.finishes b t k) },
-    λ b t x k. live_fewer body calls deep t x P Q J (f b) up (L.1.1.1.1.1.1 b t x k)))))))
+live_fewer body calls deep z y P Q J (Bind r f) up L = (
+  L.0,
+  (
+    L.1.0,
+    (
+      L.1.1.0,
+      (
+        L.1.1.1.0,
+        (
+          L.1.1.1.1.0,
+          (
+            record { tokens = L.1.1.1.1.1.0.tokens; opens = fewer_opens L.0 P Q L.1.1.1.1.1.0.tokens up L.1.1.1.1.1.0.opens; finishes = λ b t k. fin_fewer body t P Q J J (f b) L.1.1.1.1.1.0.tokens up (λ a t k. k) (L.1.1.1.1.1.0.finishes b t k) },
+            λ b t x k. live_fewer body calls deep t x P Q J (f b) up (L.1.1.1.1.1.1 b t x k),
+          ),
+        ),
+      ),
+    ),
+  ),
+)
   where
     fewer_opens : (O P Q : Tokens) (u : List Shape) → ((x : Shape) → Q x ≡ true → P x ≡ true) → Opens O u P → Opens O u Q
     fewer_opens O P Q [] up o = λ x q. o x (up x q)

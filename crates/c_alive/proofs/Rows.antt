@@ -1,7 +1,6 @@
 -- The pieces of a row can be completed, one after the other.
-use Rattle.std.proofs.Common.{◌≡◌, refl, ap, sym, ◌∙◌, ℕ, not, Bool, true, false, ◌&&◌, nat_eq, List, [], ◌∷◌, ◌++◌, Option, Some, None}
+use Rattle.std.proofs.Common.{◌≡◌, refl, ℕ, not, Bool, true, false, ◌&&◌, nat_eq, List, [], ◌∷◌}
 use Rattle.c_tokens.specs.declared.token.Shape.{Shape}
-use Rattle.c_tokens.specs.declared.class.Class.{Class}
 use Rattle.c_tokens.specs.ClassNumbers.{class_number}
 use Rattle.c_forms.specs.declared.pieces.Event.{Event}
 use Rattle.c_forms.specs.declared.pieces.Event.TheVariants as event
@@ -11,15 +10,13 @@ use Rattle.c_forms.specs.declared.pieces.Piece.TheVariants.{Token, Maybe, Own, T
 use Rattle.c_forms.specs.declared.forms.Form.{Form}
 use Rattle.c_forms.specs.Sets.{Classes, has, goes_on, held_class}
 use Rattle.c_reader.specs.States.{State, Kept, happens, is_bare}
-use Rattle.c_reader.specs.Tokens.{spot}
-use Rattle.c_reader.specs.Readers.{Reader, Found, Give, Refuse, Pick, Bind, Change, Ask, below, choose, only, token}
+use Rattle.c_reader.specs.Readers.{Reader, Give, Refuse, Pick, Bind, Change, below, choose, only, token}
 use Rattle.c_reader.proofs.Sets.{both, contrary}
-use Rattle.c_reader.proofs.Seen.{written}
-use Rattle.c_reader.proofs.Leaves.{Leaves, anyhow, leaves_anyhow, leaving_pick}
-use Rattle.c_reader.proofs.Phrases.{Tokens, anything, opens_anything, Finishes, fin_give, fin_bind, fin_map, fin_token, fin_ask, fin_choose, fin_change}
+use Rattle.c_reader.proofs.Leaves.{Leaves, leaving_pick}
+use Rattle.c_reader.proofs.Phrases.{anything, opens_anything, Finishes, fin_give, fin_bind, fin_map, fin_token, fin_ask, fin_choose, fin_change}
 use Rattle.c_reader.proofs.Live.{Calls, Live, live_bind, live_choose, live_map}
 use Rattle.c_syntax.specs.Allowed.{may_happen}
-use Rattle.c_syntax.specs.Reading.{Before, Usual, Listed, Parts, nothing, with_first, before_by, is_absent, inside, pieces_in}
+use Rattle.c_syntax.specs.Reading.{Before, Usual, Parts, nothing, with_first, before_by, is_absent, inside, pieces_in}
 use Rattle.c_syntax.specs.Grammar.{body}
 use Rattle.c_alive.proofs.Kept.{Still, Within, allowed, pending, event_within}
 use Rattle.c_alive.proofs.Phrased.{phrase, pieces_phrase, shape_of, shape_class_of, token_written, none_of, opens_so, opens_if}

@@ -1,5 +1,5 @@
 -- Each loop of the grammar ends, since each turn of it takes a token.
-use Rattle.std.proofs.Common.{◌≡◌, ◌⊎◌, inl, inr, refl, subst, ap, sym, ◌∙◌, ℕ, zero, suc, ◌+◌, ◌-◌, max, ◌<◌, ◌≤◌, not, Bool, true, false, ◌&&◌, ◌||◌, nat_eq, nat_lt, List, [], ◌∷◌, length, Option, Some, None, Ok, Err, arith}
+use Rattle.std.proofs.Common.{◌≡◌, inl, inr, refl, subst, ap, sym, ℕ, zero, suc, ◌+◌, ◌-◌, max, ◌<◌, not, Bool, true, false, ◌&&◌, ◌||◌, nat_eq, nat_lt, List, [], ◌∷◌, length, Option, Some, None, Ok, arith}
 use Rattle.c_tokens.specs.declared.token.Shape.{Shape}
 use Rattle.c_tokens.specs.declared.token.Shape.TheVariants as shape
 use Rattle.c_tokens.specs.declared.token.Punct.{Punct}
@@ -33,17 +33,17 @@ use Rattle.c_forms.specs.declared.operators.StorageClass.TheVariants as storage
 use Rattle.c_forms.specs.declared.operators.BinaryOperator.TheVariants as operator
 use Rattle.c_forms.specs.Measures.{level, pieces}
 use Rattle.c_forms.specs.Tokens.{map_option, declarator_continued, begun, continued, exp_begun, spec_of_shape, stmt_begun}
-use Rattle.c_forms.specs.Sets.{Classes, has, starts, element_starts, goes_on_with}
+use Rattle.c_forms.specs.Sets.{has, starts, element_starts, goes_on_with}
 use Rattle.c_reader.specs.States.{State, Seen, is_function}
-use Rattle.c_reader.specs.Tokens.{Spot, seen_at}
-use Rattle.c_reader.specs.Readers.{Input, Reader, Turn, More, Last, Rule, Of, Opened, Body, Found, Give, Refuse, Look, Next, Pick, Note, Bind, Fits, Call, Loop, Ask, Change, ◌>>◌, read, here, choose, token, turn_while, repeat}
+use Rattle.c_reader.specs.Tokens.{Spot}
+use Rattle.c_reader.specs.Readers.{Input, Reader, Turn, More, Last, Rule, Of, Opened, Found, Give, Refuse, Look, Next, Bind, Fits, Ask, Change, ◌>>◌, read, here, choose, token, turn_while}
 use Rattle.c_reader.proofs.Loops.{same_answer}
-use Rattle.c_reader.proofs.Sets.{both, either, itself, not_true}
+use Rattle.c_reader.proofs.Sets.{both, either, not_true}
 use Rattle.c_reader.proofs.Bounds.{Bounded, Tame}
 use Rattle.c_reader.proofs.Advance.{Takes, advances, the_end, in_tokens, bounded_while, grew}
 use Rattle.c_syntax.specs.Allowed.{may_happen, may_stand, has_name, places}
-use Rattle.c_syntax.specs.Reading.{Before, Usual, has_none, before_by, is_absent, ended, grouped, list_from, none_at, with_last, one, deeper, joined, node, Listed, Gathered, Parts, called, parts_by, parts_of, is_starred, is_class, separated, separator_of, goes, element_after, others, ended_turn, others_ended, many, at_most_one, any_number, is_missing, gathered_by, gathered, pieces_in, completed, inside, nothing}
-use Rattle.c_syntax.specs.Grammar.{body, sign, whole, charged, is_sign, is_word, is_type_word, begins, Standing, standing, tight, entered, type_or, sized, begun_by, primary, expression, opened, parenthesized, after_paren, after_first, after_part, sized_opened, continued_by, is_tail, tail_by, turn, climb, the_declarator, may_be_absent, may_be_named, is_value, absent_at, parenthesized_sort, begins_parenthesized, nameless_function, is_nameable, opened_declarator, declarator_head, declarator_of, typed, parameters, initializer, label, id_leaf, name_leaf, word_led, type_led, typedef_leaf, block, function_from, declaration_of, declaration_from, outer_by, outer, specified, unspecified, external, goes_on_declaring, item_reader, typedef_of, spec_of, specifier_by, specifier, worded, statement_by, statement, late, declaration_at, type_first, block_item, at_sort, in_place}
+use Rattle.c_syntax.specs.Reading.{Before, Usual, has_none, before_by, is_absent, ended, list_from, none_at, with_last, one, deeper, node, Listed, Gathered, Parts, called, parts_by, parts_of, is_starred, is_class, separated, separator_of, goes, element_after, others, ended_turn, others_ended, many, at_most_one, any_number, is_missing, gathered_by, gathered, pieces_in, completed, inside, nothing}
+use Rattle.c_syntax.specs.Grammar.{body, sign, whole, charged, is_sign, is_word, is_type_word, begins, Standing, standing, tight, entered, type_or, sized, begun_by, primary, expression, opened, parenthesized, after_paren, after_first, after_part, sized_opened, continued_by, is_tail, tail_by, turn, climb, the_declarator, may_be_absent, may_be_named, is_value, absent_at, parenthesized_sort, begins_parenthesized, nameless_function, is_nameable, opened_declarator, declarator_head, declarator_of, typed, parameters, initializer, label, id_leaf, name_leaf, word_led, type_led, typedef_leaf, block, function_from, declaration_of, declaration_from, outer, specified, unspecified, external, goes_on_declaring, item_reader, typedef_of, spec_of, specifier_by, specifier, worded, statement_by, statement, late, declaration_at, type_first, block_item, at_sort, in_place}
 
 -- the sorts each of whose trees has a token, as far as loops ask
 abbrev pub takes : Sort → Bool
@@ -514,8 +514,14 @@ bounded_turn due least i = bounded_by (turn due least i) falls
 
 pub tame_climb : (due : Sort) (least i : ℕ) (y : Standing) → Tame body (climb due least i y)
 unfolding climb
-tame_climb due least i y = ((bounded_turn due least i, λ y k x. tame_choose (is_tail due least k.state y (continued_by due x.shape)) (Bind (tail_by due i y (continued_by due x.shape)) (λ t. Give (More t))) (Give (Last y))
-    (tame_tail due i y (continued_by due x.shape) (shape_tail due x.shape), λ t. tt) tt), λ z. tt)
+tame_climb due least i y = (
+  (
+    bounded_turn due least i,
+    λ y k x. tame_choose (is_tail due least k.state y (continued_by due x.shape)) (Bind (tail_by due i y (continued_by due x.shape)) (λ t. Give (More t))) (Give (Last y))
+        (tame_tail due i y (continued_by due x.shape) (shape_tail due x.shape), λ t. tt) tt,
+  ),
+  λ z. tt,
+)
 
 -- ---- expressions
 
@@ -715,11 +721,10 @@ module _ (inner : Parts) (F : Firmly inner) (T : Tamely inner) where
 
   tame_external : Tame body (external inner)
   unfolding external
-  tame_external = λ i x. tame_choose (begins s.Spec x) (specified inner i.place) (unspecified inner i.place)
-      (
-        (tame_gathered All s.Spec (inner s.Spec 0) Usual refl (F s.Spec 0) (T s.Spec 0), λ g. tt),
-        λ specs j y. tame_choose (is_sign punct.Semicolon y) (declaration_of inner i.place specs (list_from j.place (none_at j.place))) (outer inner i.place specs) (tame_declaration i.place specs (list_from j.place (none_at j.place))) (tame_outer i.place specs),
-      )
+  tame_external = λ i x. tame_choose (begins s.Spec x) (specified inner i.place) (unspecified inner i.place) (
+    (tame_gathered All s.Spec (inner s.Spec 0) Usual refl (F s.Spec 0) (T s.Spec 0), λ g. tt),
+    λ specs j y. tame_choose (is_sign punct.Semicolon y) (declaration_of inner i.place specs (list_from j.place (none_at j.place))) (outer inner i.place specs) (tame_declaration i.place specs (list_from j.place (none_at j.place))) (tame_outer i.place specs),
+  )
       (tame_outer i.place (list_from i.place (none_at i.place)))
 
   tame_at : Tamely (at_sort inner)

@@ -9,7 +9,7 @@ use Rattle.c_reader.specs.Readers.{Reader, Outcome, More, Last, Found, Rule, Bod
 use Rattle.c_reader.proofs.Bounds.{Bounded}
 use Rattle.c_reader.proofs.Fresh.{Fresh}
 use Rattle.c_reader.proofs.Leaves.{Leaves, Turned, anyhow, leaves_anyhow, leaves_turn}
-use Rattle.c_reader.proofs.Phrases.{Tokens, Opens, Here, Ends, Finishes, Phrase, Way, Begun, fin_give, fin_over}
+use Rattle.c_reader.proofs.Phrases.{Tokens, Here, Ends, Finishes, Phrase, Way, Begun, fin_give, fin_over}
 
 -- What is promised of the rules that calls are made of: in which states and at which tokens they are called, how many
 -- levels each needs below it, what may follow what it reads, and what holds of its answer where it is completed.

@@ -6,7 +6,7 @@ use Rattle.c_tokens.specs.declared.token.Shape.{Shape}
 use Rattle.c_forms.specs.declared.pieces.Event.{Event}
 use Rattle.c_reader.specs.declared.refusal.Refusal.TheVariants.{Memory, Syntax, TooDeep}
 use Rattle.c_reader.specs.States.{State, Seen, seen, happens, noted}
-use Rattle.c_reader.specs.Tokens.{Spot, spot, step, turned, raw_at, seen_at, Agree}
+use Rattle.c_reader.specs.Tokens.{Spot, spot, step, turned, raw_at, seen_at}
 use Rattle.c_reader.specs.Readers.{Input, Reader, Outcome, Turn, More, Last, Rule, Body, Found, Give, Refuse, Look, Next, Pick, Note, Bind, Fits, Call, Loop, Ask, Change, read, below, pick, when, and_then, after, loop}
 use Rattle.c_reader.proofs.Bounds.{Bounded, Tame}
 use Rattle.c_reader.proofs.Local.{from, already, Onward, onward}

@@ -49,7 +49,6 @@ c = Char (record { 0 = 92 })
 abbrev s : Shape
 s = Str (record { 0 = 93 })
 
-
 -- ---- expressions
 
 -- `int x = a + b * c - d ;`

@@ -182,7 +182,7 @@ sized_opened i = Call Opened >>= λ x. Ask (λ j. Give (node (form.Exp exp.Sizeo
 abbrev pub sized : Parts → ℕ → ℕ → Reader Standing
 sized inner least i = Fits 0 (Next (Look (λ x. choose (is_sign punct.LeftParen x)
     (type_or (tight least (form.Exp exp.SizeofType) (completed called s.Exp (form.Exp exp.SizeofType) i nothing (after_paren (pieces (form.Exp exp.SizeofType)))))
-        (tight least (form.Exp exp.SizeofExp) (sized_opened i)))
+    (tight least (form.Exp exp.SizeofExp) (sized_opened i)))
     (tight least (form.Exp exp.SizeofExp) (completed called s.Exp (form.Exp exp.SizeofExp) i nothing (after_first (pieces (form.Exp exp.SizeofExp))))))))
 
 abbrev pub begun_by : Parts → ℕ → Option Form → Reader Standing
@@ -275,8 +275,8 @@ specifier inner due = Ask (λ i. Look (λ x. choose (begins due x) (specifier_by
 abbrev pub typed : Parts → ℕ → Reader Found
 typed inner i = gathered (Ended (sign punct.Comma) (sign punct.Ellipsis)) s.Param (inner s.Param 0) Usual
     >>= λ g. choose g.1.is_ended
-        (token (class_number (sign punct.Ellipsis)) >> Ask (λ j. Give (node (form.Params params.TypedAndMore) i j.place (one (list_from g.0 g.1)))))
-        (Ask (λ j. Give (node (form.Params params.Typed) i j.place (one (list_from g.0 g.1)))))
+    (token (class_number (sign punct.Ellipsis)) >> Ask (λ j. Give (node (form.Params params.TypedAndMore) i j.place (one (list_from g.0 g.1)))))
+    (Ask (λ j. Give (node (form.Params params.Typed) i j.place (one (list_from g.0 g.1)))))
 
 -- a declarator without a name has no identifier list
 unfoldable pub parameters : Parts → Reader Found

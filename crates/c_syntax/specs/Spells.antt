@@ -33,7 +33,6 @@ use Rattle.c_reader.specs.Tokens.{Spot, step, turned, raw_at, class_at}
 use Rattle.c_syntax.specs.Allowed.{may_happen, may_stand, has_name, places}
 use Rattle.c_syntax.specs.Reading.{Before, Usual, before_by, is_missing, is_absent, inside, is_starred, spanned, the_list}
 
-
 -- the tokens from one spot to another spell a tree of a sort, of at least a level
 abbrev pub Spelling : Type 1
 Spelling = Sort → ℕ → Plain → Spot → Spot → Type 0
