@@ -716,3 +716,8 @@ kept_call = leaves_call body KeptBy (λ B d C n z y i e f x j h c g. stays_body 
 -- each reader of a sort in place keeps to it
 pub kept_in_place : (n : ℕ) (due : Sort) (least : ℕ) (a : List Kept) (z : State) (y : Shape) → is_item due ≡ false → Still a z → Leaves body z y (in_place n due least) (λ _ t. Still a t)
 kept_in_place n due least a z y h k d = stays_in_place (below body d) d (stays_call (below body d) d (λ n z y. kept_call n z y d)) n due least h a z y k
+
+-- and so does what goes on with a first part
+pub kept_tail : (due : Sort) (i : ℕ) (s : Standing) (x : Shape) (a : List Kept) (z : State) (y : Shape) → Still a z → Leaves body z y (tail_by due i s (continued_by due x)) (λ _ t. Still a t)
+kept_tail due i s x a z y k d = let C : (n : Rule) → is_called n ≡ true → Stays (below body d) d (Call n) = stays_call (below body d) d (λ n z y. kept_call n z y d) in
+    stays_tail (below body d) d C due i s (continued_by due x) (shape_calm_tail (below body d) d C due x) a z y k

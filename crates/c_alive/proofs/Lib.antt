@@ -4,3 +4,4 @@ pub mod Groups
 pub mod Phrased
 pub mod Rows
 pub mod FitRows
+pub mod Climbs
