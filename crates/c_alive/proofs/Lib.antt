@@ -5,3 +5,4 @@ pub mod Phrased
 pub mod Rows
 pub mod FitRows
 pub mod Climbs
+pub mod Tails
