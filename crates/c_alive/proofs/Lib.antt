@@ -6,3 +6,4 @@ pub mod Rows
 pub mod FitRows
 pub mod Climbs
 pub mod Tails
+pub mod Words
