@@ -2,6 +2,8 @@
 use Rattle.std.proofs.Common.{◌≡◌, refl, Bool, true, false, ◌||◌, Option, Some, None}
 use Rattle.c_tokens.specs.declared.token.Punct.{Punct}
 use Rattle.c_tokens.specs.declared.token.Punct.TheVariants as punct
+use Rattle.c_tokens.specs.declared.class.Class.TheVariants as class
+use Rattle.c_tokens.specs.ClassNumbers.{class_number}
 use Rattle.c_forms.specs.declared.pieces.Sort.{Sort}
 use Rattle.c_forms.specs.declared.pieces.Sort.TheVariants as s
 use Rattle.c_forms.specs.declared.forms.Form.{Form}
@@ -14,7 +16,7 @@ use Rattle.c_forms.specs.Measures.{level, pieces}
 use Rattle.c_forms.specs.Sets.{goes_on}
 use Rattle.c_forms.specs.Tokens.{continued}
 use Rattle.c_syntax.specs.Grammar.{after_first, after_paren}
-use Rattle.c_alive.proofs.Rows.{fit_from}
+use Rattle.c_alive.proofs.Rows.{fit_from, begins_with}
 
 -- the sorts whose parts can be completed wherever they are read
 abbrev pub lively : Sort → Bool
@@ -37,6 +39,15 @@ tail_fits None = true
 pub exp_tail_fits : (p : Punct) → tail_fits (continued s.Exp p) ≡ true
 exp_tail_fits punct.LeftBracket = refl
 exp_tail_fits _ = refl
+
+-- it begins with the punctuator that decides for it
+abbrev tail_begins : Punct → Option Form → Bool
+tail_begins p (Some f) = begins_with f (after_first (pieces f)) (class_number (class.Punct p))
+tail_begins p None = true
+
+pub exp_tail_begins : (p : Punct) → tail_begins p (continued s.Exp p) ≡ true
+exp_tail_begins punct.LeftBracket = refl
+exp_tail_begins _ = refl
 
 -- what begins an expression
 pub cast_fits : fit_from lively lively s.Exp true (after_paren (pieces (form.Exp exp.Cast))) (goes_on s.Exp 14) ≡ true

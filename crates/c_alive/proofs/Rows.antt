@@ -1,5 +1,5 @@
 -- The pieces of a row can be completed, one after the other.
-use Rattle.std.proofs.Common.{◌≡◌, refl, ℕ, not, Bool, true, false, ◌&&◌, nat_eq, List, [], ◌∷◌}
+use Rattle.std.proofs.Common.{◌≡◌, refl, ap, ℕ, not, Bool, true, false, ◌&&◌, nat_eq, List, [], ◌∷◌}
 use Rattle.c_tokens.specs.declared.token.Shape.{Shape}
 use Rattle.c_tokens.specs.ClassNumbers.{class_number}
 use Rattle.c_forms.specs.declared.pieces.Event.{Event}
@@ -9,11 +9,11 @@ use Rattle.c_forms.specs.declared.pieces.Piece.{Piece}
 use Rattle.c_forms.specs.declared.pieces.Piece.TheVariants.{Token, Maybe, Own, TypeTokens, KindName, One, Group, Rest, Anything, Then}
 use Rattle.c_forms.specs.declared.forms.Form.{Form}
 use Rattle.c_forms.specs.Sets.{Classes, has, goes_on, held_class}
-use Rattle.c_reader.specs.States.{State, Kept, happens, is_bare}
+use Rattle.c_reader.specs.States.{State, Kept, class, happens, is_bare}
 use Rattle.c_reader.specs.Readers.{Reader, Give, Refuse, Pick, Bind, Change, below, choose, only, token}
 use Rattle.c_reader.proofs.Sets.{both, contrary}
 use Rattle.c_reader.proofs.Leaves.{Leaves, leaving_pick}
-use Rattle.c_reader.proofs.Phrases.{anything, opens_anything, Finishes, fin_give, fin_bind, fin_map, fin_token, fin_ask, fin_choose, fin_change}
+use Rattle.c_reader.proofs.Phrases.{Begun, begun_bind, begun_pick, anything, opens_anything, Finishes, fin_give, fin_bind, fin_map, fin_token, fin_ask, fin_choose, fin_change}
 use Rattle.c_reader.proofs.Live.{Calls, Live, live_bind, live_choose, live_map}
 use Rattle.c_syntax.specs.Allowed.{may_happen}
 use Rattle.c_syntax.specs.Reading.{Before, Usual, Parts, nothing, with_first, before_by, is_absent, inside, pieces_in}
@@ -43,6 +43,12 @@ fit_from live done own b (Own ∷ ps) past = fit done own b ps past && fit_from 
 fit_from live done own b (One due least ∷ ps) past = live (inside own due) && (opens_so (goes_on (inside own due) least) (pieces_phrase own ps) past && (fit done own b ps past && fit_from live done own b ps past))
 fit_from live done own b (Then e ∷ ps) past = free e && (allowed e b && fit_from live done own (pending e b) ps past)
 fit_from live done own b (p ∷ ps) past = false
+
+-- whether a form's pieces begin with a token of this class
+abbrev pub begins_with : Form → List Piece → ℕ → Bool
+begins_with f (Token c ∷ ps) n = nat_eq n (class_number c)
+begins_with f (Own ∷ ps) n = has (held_class f) n
+begins_with f ps n = false
 
 not_due : (b : Bool) (a : List Kept) (z : State) → Within b a z → z.kept.is_function_due ≡ false
 not_due false a z W = W.1
@@ -145,3 +151,20 @@ module _ (calls : Calls) (deep : ℕ) (part : Parts) (own : Sort) (f : Form) (li
       let k = both (free e) (allowed e b && fit_from live done own (pending e b) ps past) h in
       let m = both (allowed e b) (fit_from live done own (pending e b) ps past) k.1 in
       λ place. live_choose body calls deep z y (none_of past) (Ended a) (may_happen e z) (Change e (pieces_in part own f before ps)) Refuse (λ _. live_pieces (pending e b) before ps m.1 a (happens e z) y (event_within e b a z m.0 w)) (λ _. tt)
+
+  -- after the token that stands there and begins them
+  pub begun_pieces : (b : Bool) (before : Before) (ps : List Piece) → fit_from live done own b ps past ≡ true → (a : List Kept) (z : State) (y : Shape) → Within b a z → begins_with f ps (class z y) ≡ true → Begun body z y (none_of past) (Ended a) (pieces_in part own f before ps)
+  unfolding pieces_in
+  begun_pieces b before [] h a z y w o = absurd (cc o)
+  begun_pieces b before (Token c ∷ ps) h a z y w o = begun_bind body z y (λ _ t. Within b a t) anything (none_of past) (Ended a) (Pick (λ x. only (nat_eq x.class (class_number c)))) (λ _. pieces_in part own f Usual ps) (begun_pick body z y anything (λ _ t. Within b a t) (λ x. only (nat_eq x.class (class_number c))) tt (ap only o) w)
+      (record { tokens = pieces_phrase own ps; opens = opens_anything (pieces_phrase own ps) (none_of past); finishes = λ _ t m. fin_pieces b Usual ps (both (fit done own b ps past) (fit_from live done own b ps past) h).0 a t m })
+  begun_pieces b before (Own ∷ ps) h a z y w o = begun_bind body z y (λ _ t. Within b a t) anything (none_of past) (Ended a) (Pick (λ x. only (has (held_class f) x.class))) (λ _. pieces_in part own f Usual ps) (begun_pick body z y anything (λ _ t. Within b a t) (λ x. only (has (held_class f) x.class)) tt (ap only o) w)
+      (record { tokens = pieces_phrase own ps; opens = opens_anything (pieces_phrase own ps) (none_of past); finishes = λ _ t m. fin_pieces b Usual ps (both (fit done own b ps past) (fit_from live done own b ps past) h).0 a t m })
+  begun_pieces b before (Maybe c ∷ ps) h a z y w o = absurd (cc o)
+  begun_pieces b before (TypeTokens ∷ ps) h a z y w o = absurd (cc o)
+  begun_pieces b before (KindName ∷ ps) h a z y w o = absurd (cc o)
+  begun_pieces b before (One due least ∷ ps) h a z y w o = absurd (cc o)
+  begun_pieces b before (Group r due least ∷ ps) h a z y w o = absurd (cc o)
+  begun_pieces b before (Rest due ∷ ps) h a z y w o = absurd (cc o)
+  begun_pieces b before (Anything ∷ ps) h a z y w o = absurd (cc o)
+  begun_pieces b before (Then e ∷ ps) h a z y w o = absurd (cc o)
