@@ -7,3 +7,4 @@ pub mod FitRows
 pub mod Climbs
 pub mod Tails
 pub mod Words
+pub mod Called
