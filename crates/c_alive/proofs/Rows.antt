@@ -28,15 +28,15 @@ free _ = true
 
 -- Whether pieces without groups and without a token that the form holds can be completed by their phrase, where no token
 -- of `past` follows. `done` says which sorts are completed by theirs.
-abbrev pub fit : (Sort → Bool) → Sort → Bool → List Piece → Classes → Bool
+abbrev pub fit : (Sort → ℕ → Bool) → Sort → Bool → List Piece → Classes → Bool
 fit done own b [] past = not b
 fit done own b (Token c ∷ ps) past = shape_class_of c && fit done own b ps past
-fit done own b (One due least ∷ ps) past = done (inside own due) && (opens_so (goes_on (inside own due) least) (pieces_phrase own ps) past && fit done own b ps past)
+fit done own b (One due least ∷ ps) past = done (inside own due) least && (opens_so (goes_on (inside own due) least) (pieces_phrase own ps) past && fit done own b ps past)
 fit done own b (Then e ∷ ps) past = free e && (allowed e b && fit done own (pending e b) ps past)
 fit done own b (p ∷ ps) past = false
 
 -- and each prefix of them too, which may begin with a token that the form holds
-abbrev pub fit_from : (Sort → Bool) → (Sort → Bool) → Sort → Bool → List Piece → Classes → Bool
+abbrev pub fit_from : (Sort → Bool) → (Sort → ℕ → Bool) → Sort → Bool → List Piece → Classes → Bool
 fit_from live done own b [] past = not b
 fit_from live done own b (Token c ∷ ps) past = fit done own b ps past && fit_from live done own b ps past
 fit_from live done own b (Own ∷ ps) past = fit done own b ps past && fit_from live done own b ps past
@@ -63,9 +63,9 @@ happens_freely event.Seal z h k = by_due z.kept.is_function_due k
     by_due false e = refl
 happens_freely _ z h k = refl
 
-module _ (calls : Calls) (deep : ℕ) (part : Parts) (own : Sort) (f : Form) (live done : Sort → Bool)
+module _ (calls : Calls) (deep : ℕ) (part : Parts) (own : Sort) (f : Form) (live : Sort → Bool) (done : Sort → ℕ → Bool)
     (lives : (due : Sort) (least : ℕ) → live due ≡ true → (a : List Kept) (z : State) (y : Shape) → Still a z → Live body calls deep z y (none_of (goes_on due least)) (λ _ t. Still a t) (part due least))
-    (ends : (due : Sort) (least : ℕ) → done due ≡ true → (a : List Kept) (z : State) → Still a z → Finishes body z (none_of (goes_on due least)) (λ _ t. Still a t) (part due least) (phrase due))
+    (ends : (due : Sort) (least : ℕ) → done due least ≡ true → (a : List Kept) (z : State) → Still a z → Finishes body z (none_of (goes_on due least)) (λ _ t. Still a t) (part due least) (phrase due))
     (leaves : (due : Sort) (least : ℕ) → live due ≡ true → (a : List Kept) (z : State) (y : Shape) → Still a z → Leaves body z y (part due least) (λ _ t. Still a t))
     (past : Classes) where
   abbrev pub Ended : {A : Type 0} → List Kept → A → State → Type 0
@@ -86,13 +86,13 @@ module _ (calls : Calls) (deep : ℕ) (part : Parts) (own : Sort) (f : Form) (li
   fin_pieces b before (Rest due ∷ ps) h a z w = absurd (cc h)
   fin_pieces b before (Anything ∷ ps) h a z w = absurd (cc h)
   fin_pieces false before (One due least ∷ ps) h a z w =
-      let k = both (done (inside own due)) (opens_so (goes_on (inside own due) least) (pieces_phrase own ps) past && fit done own false ps past) h in
+      let k = both (done (inside own due) least) (opens_so (goes_on (inside own due) least) (pieces_phrase own ps) past && fit done own false ps past) h in
       let m = both (opens_so (goes_on (inside own due) least) (pieces_phrase own ps) past) (fit done own false ps past) k.1 in
       fin_bind body z (Ended a) (none_of (goes_on (inside own due) least)) (none_of past) (Ended a) (part (inside own due) least) (λ x. Bind (pieces_in part own f (before_by (is_absent x.tree)) ps) (λ g. Give (with_first x g))) (phrase (inside own due)) (pieces_phrase own ps)
       (ends (inside own due) least k.0 a z w) (opens_if (goes_on (inside own due) least) (pieces_phrase own ps) past m.0)
       (λ x t n. fin_map body t (Ended a) (none_of past) (Ended a) (pieces_in part own f (before_by (is_absent x.tree)) ps) (λ g. with_first x g) (pieces_phrase own ps) (fin_pieces false (before_by (is_absent x.tree)) ps m.1 a t n) (λ g t n. n))
   fin_pieces true before (One due least ∷ ps) h a z w =
-      let k = both (done (inside own due)) (opens_so (goes_on (inside own due) least) (pieces_phrase own ps) past && fit done own true ps past) h in
+      let k = both (done (inside own due) least) (opens_so (goes_on (inside own due) least) (pieces_phrase own ps) past && fit done own true ps past) h in
       let m = both (opens_so (goes_on (inside own due) least) (pieces_phrase own ps) past) (fit done own true ps past) k.1 in
       fin_bind body z (Ended (w.0 ∷ a)) (none_of (goes_on (inside own due) least)) (none_of past) (Ended a) (part (inside own due) least) (λ x. Bind (pieces_in part own f (before_by (is_absent x.tree)) ps) (λ g. Give (with_first x g))) (phrase (inside own due)) (pieces_phrase own ps)
       (ends (inside own due) least k.0 (w.0 ∷ a) z w.1.1) (opens_if (goes_on (inside own due) least) (pieces_phrase own ps) past m.0)
