@@ -1,12 +1,12 @@
 -- What goes on after a first part can be completed, where each tail can.
-use Rattle.std.proofs.Common.{◌≡◌, refl, ap, ◌∙◌, ℕ, Bool, true, false, List, [], Some, Ok}
+use Rattle.std.proofs.Common.{◌≡◌, ap, ◌∙◌, ℕ, Bool, true, false, List, [], Ok}
 use Rattle.c_tokens.specs.declared.token.Shape.{Shape}
 use Rattle.c_forms.specs.declared.pieces.Sort.{Sort}
-use Rattle.c_reader.specs.States.{State, Kept, Seen, seen}
+use Rattle.c_reader.specs.States.{State, Kept, Seen}
 use Rattle.c_reader.specs.Tokens.{Spot, spot, raw_at}
-use Rattle.c_reader.specs.Readers.{Reader, Turn, More, Last, Found, Give, Bind, Loop, Ask, Look, below, choose, turn_while, read}
+use Rattle.c_reader.specs.Readers.{Reader, More, Last, Give, Bind, Loop, below, choose, turn_while, read}
 use Rattle.c_reader.specs.Laws.{from}
-use Rattle.c_reader.proofs.Leaves.{Leaves, Turned, anyhow, leaves_anyhow, leaving_ask, leaves_turn}
+use Rattle.c_reader.proofs.Leaves.{Leaves, Turned, anyhow, leaving_ask, leaves_turn}
 use Rattle.c_reader.proofs.Phrases.{Tokens, Finishes, ends_last, fin_give, fin_last}
 use Rattle.c_reader.proofs.Live.{Calls, Live, live_choose, live_map}
 use Rattle.c_syntax.specs.Grammar.{body, Standing, continued_by, is_tail, tail_by, turn, climb}

@@ -1,5 +1,5 @@
 -- Which tokens go on with a tree of a sort with levels: those of a form that is tight enough.
-use Rattle.std.proofs.Common.{◌≡◌, refl, subst, ap, sym, ◌∙◌, ℕ, zero, suc, ◌≤◌, not, Bool, true, false, ◌&&◌, ◌||◌, nat_eq, nat_lt, List, [], ◌∷◌, ◌++◌, Option, Some, None, arith}
+use Rattle.std.proofs.Common.{◌≡◌, refl, subst, sym, ℕ, zero, suc, ◌≤◌, not, Bool, true, false, ◌&&◌, ◌||◌, nat_eq, nat_lt, List, [], ◌∷◌, ◌++◌, Option, Some, None, arith}
 use Rattle.std.proofs.lemmas.Bool.{lt-ltb, or_parts}
 use borrow.Author.Tests.{ltb-true}
 use Rattle.c_tokens.specs.declared.token.Punct.{Punct}
@@ -15,8 +15,8 @@ use Rattle.c_forms.specs.Measures.{level}
 use Rattle.c_forms.specs.Tokens.{continued}
 use Rattle.c_forms.specs.Sets.{Classes, has, within, given, goes_on, all_puncts}
 use Rattle.c_reader.specs.States.{State}
-use Rattle.c_reader.proofs.Sets.{both, not_true, contrary, itself, has_left, has_right, within_all, within_before, within_more}
-use Rattle.c_reader.proofs.Seen.{written, blur}
+use Rattle.c_reader.proofs.Sets.{both, not_true, contrary, itself, has_left, has_right, within_all, within_before}
+use Rattle.c_reader.proofs.Seen.{blur}
 use Rattle.c_syntax.specs.Grammar.{Standing, continued_by, is_tail}
 use Rattle.c_alive.proofs.Phrased.{none_of}
 

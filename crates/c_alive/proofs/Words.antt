@@ -1,5 +1,5 @@
 -- A word completes an expression.
-use Rattle.std.proofs.Common.{◌≡◌, refl, ℕ, Bool, true, false, nat_lt, List, [], ◌∷◌, Some}
+use Rattle.std.proofs.Common.{◌≡◌, refl, ℕ, false, nat_lt, List, [], ◌∷◌}
 use Rattle.c_tokens.specs.declared.token.Shape.TheVariants as shape
 use Rattle.c_tokens.specs.declared.token.Shape.{Shape}
 use Rattle.c_forms.specs.declared.pieces.Sort.TheVariants as s
@@ -8,13 +8,13 @@ use Rattle.c_forms.specs.declared.forms.Form.TheVariants as form
 use Rattle.c_forms.specs.declared.forms.ExpForm.TheVariants as exp
 use Rattle.c_forms.specs.Measures.{pieces}
 use Rattle.c_forms.specs.Sets.{has, goes_on, held_class}
-use Rattle.c_reader.specs.States.{State, Kept, Seen}
+use Rattle.c_reader.specs.States.{State, Kept}
 use Rattle.c_reader.specs.Tokens.{Spot, spot}
-use Rattle.c_reader.specs.Readers.{Reader, Found, Give, Refuse, Look, Pick, Bind, Ask, choose, only}
+use Rattle.c_reader.specs.Readers.{Reader, Found, Give, Refuse, Pick, Bind, Ask, only}
 use Rattle.c_reader.proofs.Sets.{contrary}
-use Rattle.c_reader.proofs.Phrases.{Tokens, Finishes, renewed_seen, fin_give, fin_ask, fin_look, fin_pick, fin_choose, fin_map, fin_last}
-use Rattle.c_syntax.specs.Reading.{Usual, Parts, Listed, nothing, node, joined, parts_of, pieces_in, completed}
-use Rattle.c_syntax.specs.Grammar.{body, whole, standing, tight, Standing, primary, climb, expression}
+use Rattle.c_reader.proofs.Phrases.{Tokens, Finishes, fin_give, fin_ask, fin_look, fin_pick, fin_choose, fin_map, fin_last}
+use Rattle.c_syntax.specs.Reading.{Usual, Parts, Listed, nothing, node, joined, pieces_in, completed}
+use Rattle.c_syntax.specs.Grammar.{body, whole, standing, tight, primary, climb, expression}
 use Rattle.c_alive.proofs.Kept.{Still}
 use Rattle.c_alive.proofs.Phrased.{none_of}
 use Rattle.c_alive.proofs.Tails.{exp_over}
