@@ -9,7 +9,8 @@ use Rattle.c_reader.specs.Readers.{Reader, Rule, Body, read}
 use Rattle.c_reader.specs.Laws.{from}
 use Rattle.c_reader.proofs.Bounds.{Tame}
 use Rattle.c_reader.proofs.Fresh.{Fresh, Lows, LowNear, LowName, Low, AllLow, Under, up_lows, up_name, up_near, up_low, up_all, up_under}
-use Rattle.c_reader.proofs.Phrases.{Tokens, renewed, Here, Ends}
+use Rattle.c_reader.proofs.Phrases.{Tokens, renewed, Here, Ends, ends_so}
+use Rattle.c_reader.proofs.Leaves.{anyhow}
 use Rattle.c_reader.proofs.Live.{Calls, Live, Before, Continues}
 use Rattle.c_reader.proofs.LiveFrom.{live}
 
@@ -114,12 +115,12 @@ pub record Whole {A : Type 0} (body : Body) (r : Reader A) (i : Spot) (w : List 
   pub source : List Shape
   pub agrees : Agree p w source
   pub place : ℕ
-  pub ends : Ends body r source i place
+  pub ends : Ends body anyhow r source i place
   pub at_end : raw_at source place ≡ shape.End
 
 -- what continues can be continued up to the end
-pub whole : {A : Type 0} (body : Body) (Q : Tokens) (r : Reader A) (w : List Shape) (i : Spot) (p : ℕ) → Q shape.End ≡ true → Continues body Q r w i p → Whole body r i w p
-whole body Q r w i p quiet C =
+pub whole : {A : Type 0} (body : Body) (Q : Tokens) (J : A → State → Type 0) (r : Reader A) (w : List Shape) (i : Spot) (p : ℕ) → Q shape.End ≡ true → Continues body Q J r w i p → Whole body r i w p
+whole body Q J r w i p quiet C =
     let known = state_low i.state in
     let said = tokens_low w in
     let N : ℕ = known.0 + said.0 + 1 in
@@ -127,11 +128,11 @@ whole body Q r w i p quiet C =
     let agree : Agree p w v = (λ j le. sym (in_front w (new_tokens (N + (p + 1)) C.tokens) (p + 1) 0 j (omega arith) ∙ (let e : 0 + j ≡ j = omega arith in ap (raw_at w) e))) in
     let h = here_from N C.tokens v (p + 1) (past_front w (new_tokens (N + (p + 1)) C.tokens) (p + 1) 0) in
     let new : Fresh N v i = record { some = omega arith; rising = unfold continued in continued_rising w C.tokens p N said.0 (omega arith) said.1; under = up_under known.0 (N + i.place) (omega arith) i.state known.1 } in
-    record { source = v; agrees = agree; place = h.0; ends = C.finishes N v h.0 new agree h.1.0 (ap Q h.1.1 ∙ quiet); at_end = h.1.1 }
+    record { source = v; agrees = agree; place = h.0; ends = ends_so body J anyhow r v i h.0 (λ a t k. tt) (C.finishes N v h.0 new agree h.1.0 (ap Q h.1.1 ∙ quiet)); at_end = h.1.1 }
 
 -- a prefix that a live reader took, or lacks levels alone for, can be completed
 pub completed : {A : Type 0} (body : Body) (bodies : (n : Rule) → Tame body (body n)) (calls : Calls)
-    (lives : (n : Rule) (s : State) (y : Shape) → calls.Good n s y → Live body calls (calls.needs n) s y (calls.following n) (body n))
-    (deep d : ℕ) → deep ≤ d → (Q : Tokens) → Q shape.End ≡ true → (r : Reader A) (w : List Shape) (i : Spot) → Tame body r → Live body calls deep i.state (raw_at w i.place) Q r
+    (lives : (n : Rule) (s : State) (y : Shape) → calls.Good n s y → Live body calls (calls.needs n) s y (calls.following n) (calls.Gives n s) (body n))
+    (deep d : ℕ) → deep ≤ d → (Q : Tokens) → Q shape.End ≡ true → (J : A → State → Type 0) (r : Reader A) (w : List Shape) (i : Spot) → Tame body r → Live body calls deep i.state (raw_at w i.place) Q J r
     → (p : ℕ) → i.place ≤ p → Before p (read body d r (from w i)) → Whole body r i w p
-completed body bodies calls lives deep d D Q quiet r w i T L p le b = whole body Q r w i p quiet (live body bodies calls lives deep d D w p Q r i T L le b)
+completed body bodies calls lives deep d D Q quiet J r w i T L p le b = whole body Q J r w i p quiet (live body bodies calls lives deep d D w p Q J r i T L le b)

@@ -53,10 +53,10 @@ module _ {A : Type 0} (body : Body) (bodies : (n : Rule) → Tame body (body n))
     is_read = record { levels = W.ends.levels; allowed = tt; answer = W.ends.value; after = spot W.place W.ends.state; reads = W.ends.reads };
   }
 
-  module _ (calls : Calls) (lives : (n : Rule) (s : State) (y : Shape) → calls.Good n s y → Live body calls (calls.needs n) s y (calls.following n) (body n))
-      (deep d : ℕ) (enough : deep ≤ d) (Q : Tokens) (quiet : Q shape.End ≡ true) (w : List Shape) (L : Live body calls deep i.state (raw_at w i.place) Q r) where
+  module _ (calls : Calls) (lives : (n : Rule) (s : State) (y : Shape) → calls.Good n s y → Live body calls (calls.needs n) s y (calls.following n) (calls.Gives n s) (body n))
+      (deep d : ℕ) (enough : deep ≤ d) (Q : Tokens) (quiet : Q shape.End ≡ true) (J : A → State → Type 0) (w : List Shape) (L : Live body calls deep i.state (raw_at w i.place) Q J r) where
     completion : (p : ℕ) → i.place ≤ p → Before p (read body d r (from w i)) → Completion body r i w p
-    completion p le b = whole_read w p (completed body bodies calls lives deep d enough Q quiet r w i T L p le b)
+    completion p le b = whole_read w p (completed body bodies calls lives deep d enough Q quiet J r w i T L p le b)
 
     -- a refused token is the first that no tokens have that are read
     pub first_dead : (k : ℕ) → read body d r (from w i) ≡ Err (Syntax k) → IsFirstDead body r i w k
