@@ -1,0 +1,8 @@
+//! What is known where a token stands, in an attempt to read.
+#![tactic(auto)]
+
+mod attempt;
+mod kept;
+mod scopes;
+
+pub use attempt::Attempt;
