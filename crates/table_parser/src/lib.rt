@@ -1,0 +1,5 @@
+//! Reads tokens into trees, by the table of forms.
+#![tactic(auto)]
+
+mod classes;
+mod starts;
