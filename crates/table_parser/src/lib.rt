@@ -2,4 +2,5 @@
 #![tactic(auto)]
 
 mod classes;
+mod decisions;
 mod starts;
