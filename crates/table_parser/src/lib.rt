@@ -2,5 +2,6 @@
 #![tactic(auto)]
 
 mod classes;
+mod cursor;
 mod decisions;
 mod starts;
