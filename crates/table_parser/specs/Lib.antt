@@ -1,2 +1,4 @@
 pub mod Starts
 pub mod Cursors
+pub mod Founds
+pub mod Codes

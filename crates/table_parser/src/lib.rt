@@ -4,4 +4,5 @@
 mod classes;
 mod cursor;
 mod decisions;
+mod found;
 mod starts;
