@@ -1,2 +1,6 @@
 pub mod Sets
 pub mod Heights
+pub mod Levels
+pub mod Loops
+pub mod Separators
+pub mod Elements

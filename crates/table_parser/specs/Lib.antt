@@ -2,3 +2,6 @@ pub mod Starts
 pub mod Cursors
 pub mod Founds
 pub mod Codes
+pub mod Nests
+pub mod Sound
+pub mod Turns

@@ -7,7 +7,7 @@ ghost use Rattle.c_reader.specs.Readers.{Reads, here};
 ghost use Rattle.c_reader.specs.States as states;
 ghost use Rattle.c_reader.specs.Tokens.{spot};
 ghost use Rattle.c_reader.specs.declared.refusal.Refusal.TheVariants as refusal;
-ghost use Rattle.c_syntax.specs.Allowed as allowed;
+ghost use Rattle.c_syntax.specs.Reading.{is_class};
 ghost use Rattle.table_parser.specs.Cursors.{shape_of, seen, onward, changed};
 
 use c_forms::Event;
@@ -65,6 +65,14 @@ impl<'a> Cursor<'a> {
         self.attempt
     }
 
+    /// How many tokens there are.
+    pub fn len(&self) -> usize
+        ensures value { result ≡ length self.now.input.tokens }
+        ensures low { result < 2 ^ 32 - 1 }
+    {
+        self.tokens.len()
+    }
+
     /// The number of the next token.
     pub fn place(&self) -> usize
         ensures value { result ≡ self.now.input.at.place }
@@ -83,6 +91,13 @@ impl<'a> Cursor<'a> {
         };
         let class = self.attempt.class(shape);
         Seen { shape, class }
+    }
+
+    /// Whether the next token is of a class.
+    pub fn shows(&self, class: Class) -> bool
+        ensures { result ≡ is_class class (here self.now.input) }
+    {
+        self.look().class == class.number()
     }
 
     /// What is known where the next token stands.
@@ -105,7 +120,7 @@ impl<'a> Cursor<'a> {
         ensures reads { Reads (reader.pick (reader.only (nat_eq (here self.old.input).class (class_number class))) self.old.input) result self.new.input }
         ensures kept { self.new.before ≡ self.old.before }
     {
-        if self.look().class == class.number() {
+        if self.shows(class) {
             self.advance();
             Ok(())
         } else {

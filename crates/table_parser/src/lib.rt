@@ -5,4 +5,5 @@ mod classes;
 mod cursor;
 mod decisions;
 mod found;
+mod grammar;
 mod starts;

@@ -1,0 +1,183 @@
+//! Reads sorts by the table of forms.
+
+ghost use Rattle.std.specs.Prelude.{◌≡◌, ◌≢◌, ◌≤◌, ◌<◌, ◌+◌, ◌-◌, ◌^◌, ◌∷◌, [], IfOk, true};
+ghost use Rattle.c_reader.specs.Readers.{Reads, here};
+ghost use Rattle.c_syntax.specs.Reading as reading;
+ghost use Rattle.table_parser.specs.Founds.{Bounded};
+ghost use Rattle.table_parser.specs.Nests.{Nests, read, part_of, deeper_by};
+ghost use Rattle.table_parser.specs.Sound.{is_sound, is_token};
+
+use crate::cursor::Cursor;
+use crate::found::{Found, Gathered};
+use crate::starts::goes_on_with;
+use c_forms::{Repetition, Sort};
+use c_reader::Refusal;
+use c_tokens::Class;
+use std::alloc::Global;
+
+/// How many nodes that do not count for the height may lie in one another.
+const PLACES: u8 = 9;
+
+/// What reads a node with `depth` levels left, in which `places` nodes that do not count for the
+/// height may lie in one another. The function value reads the parts.
+#[derive(Clone, Copy)]
+pub struct Grammar<F> {
+    alloc: Global,
+    depth: usize,
+    places: u8,
+    part: F,
+}
+
+/// How parts are read: one level deeper or in place, and of which sort and least level.
+#[derive(Clone, Copy)]
+pub struct Part {
+    is_deeper: bool,
+    due: Sort,
+    least: u8,
+}
+
+impl<
+    F: Fn(Global, &mut Cursor<'_>, usize, u8, Sort, u8) -> Result<Found, Refusal>,
+> Grammar<F> {
+    /// A part of a node.
+    #[tactic(auto, using(crate::proofs::Levels::levels, crate::proofs::Heights::deeper_bounded))]
+    fn part(&self, cursor: &mut Cursor<'_>, part: Part) -> Result<Found, Refusal>
+        requires depth { self.now.depth ≤ 1000 }
+        requires places { self.now.places ≤ 9 }
+        requires nests { Nests self.now.depth self.now.places (F.pre self.now.part) (F.post self.now.part) }
+        ensures reads { Reads (read self.now.depth (part_of part.is_deeper self.now.places part.due part.least) cursor.old.input) result cursor.new.input }
+        ensures kept { cursor.new.before ≡ cursor.old.before }
+        ensures bounded { IfOk result (λ x. Bounded (deeper_by part.is_deeper) self.now.depth (x.tree ∷ []) x.height) }
+    {
+        if !part.is_deeper {
+            return (self.part)(self.alloc, cursor, self.depth, self.places, part.due, part.least);
+        }
+        if self.depth == 0 {
+            return Err(Refusal::TooDeep(cursor.place()));
+        }
+        let found = (self.part)(self.alloc, cursor, self.depth - 1, PLACES, part.due, part.least)?;
+        Ok(found.deeper())
+    }
+
+    /// One element after those that were read.
+    #[tactic(auto, unfolding(c_syntax::specs::Reading::element_after))]
+    fn element_after(&self, cursor: &mut Cursor<'_>, part: Part, all: Gathered) -> Result<Gathered, Refusal>
+        requires depth { self.now.depth ≤ 1000 }
+        requires places { self.now.places ≤ 9 }
+        requires nests { Nests self.now.depth self.now.places (F.pre self.now.part) (F.post self.now.part) }
+        requires bounded { Bounded (deeper_by part.is_deeper) self.now.depth all.trees all.height }
+        ensures reads { Reads (read self.now.depth (reading.element_after (part_of part.is_deeper self.now.places part.due part.least) all) cursor.old.input) result cursor.new.input }
+        ensures kept { cursor.new.before ≡ cursor.old.before }
+        ensures bounded { IfOk result (λ g. Bounded (deeper_by part.is_deeper) self.now.depth g.trees g.height) }
+        ensures last { IfOk result (λ g. g.last < 2 ^ 32 - 1) }
+    {
+        let found = self.part(cursor, part)?;
+        Ok(all.with_last(self.alloc, found, cursor.place())?)
+    }
+
+    /// The elements after the first.
+    #[tactic(auto, using(crate::proofs::Elements::elements))]
+    fn others(&self, cursor: &mut Cursor<'_>, repetition: Repetition, part: Part, first: Gathered) -> Result<Gathered, Refusal>
+        requires depth { self.now.depth ≤ 1000 }
+        requires places { self.now.places ≤ 9 }
+        requires nests { Nests self.now.depth self.now.places (F.pre self.now.part) (F.post self.now.part) }
+        requires sound { is_sound repetition ≡ true }
+        requires bounded { Bounded (deeper_by part.is_deeper) self.now.depth first.trees first.height }
+        requires last { first.last < 2 ^ 32 - 1 }
+        ensures reads { Reads (read self.now.depth (reading.others repetition part.due (part_of part.is_deeper self.now.places part.due part.least) first) cursor.old.input) result cursor.new.input }
+        ensures kept { cursor.new.before ≡ cursor.old.before }
+        ensures bounded { IfOk result (λ g. Bounded (deeper_by part.is_deeper) self.now.depth g.trees g.height) }
+        ensures last { IfOk result (λ g. g.last < 2 ^ 32 - 1) }
+    {
+        let mut all = first;
+        let mut turns = self.depth + cursor.len();
+        'elements: while goes_on_with(repetition, part.due, cursor.look().class) {
+            all = self.one_more(cursor, repetition, part, all)?;
+            if turns == 0 {
+                return Err(Refusal::TooDeep(cursor.place()));
+            }
+            turns -= 1;
+        }
+        Ok(all)
+    }
+
+    /// One more element of a list that goes on.
+    #[tactic(auto, using(crate::proofs::Separators::separator_token))]
+    fn one_more(&self, cursor: &mut Cursor<'_>, repetition: Repetition, part: Part, all: Gathered) -> Result<Gathered, Refusal>
+        requires depth { self.now.depth ≤ 1000 }
+        requires places { self.now.places ≤ 9 }
+        requires nests { Nests self.now.depth self.now.places (F.pre self.now.part) (F.post self.now.part) }
+        requires sound { is_sound repetition ≡ true }
+        requires goes { reading.goes repetition part.due all (here cursor.old.input) ≡ true }
+        requires bounded { Bounded (deeper_by part.is_deeper) self.now.depth all.trees all.height }
+        ensures reads { Reads (read self.now.depth (reading.separated (reading.separator_of repetition) (reading.element_after (part_of part.is_deeper self.now.places part.due part.least) all)) cursor.old.input) result cursor.new.input }
+        ensures kept { cursor.new.before ≡ cursor.old.before }
+        ensures bounded { IfOk result (λ g. Bounded (deeper_by part.is_deeper) self.now.depth g.trees g.height) }
+        ensures last { IfOk result (λ g. g.last < 2 ^ 32 - 1) }
+    {
+        if separator_of(repetition).is_some() {
+            cursor.advance();
+        }
+        self.element_after(cursor, part, all)
+    }
+
+    /// The elements after the first of a list that may end in its separator.
+    #[tactic(auto, using(crate::proofs::Elements::ends))]
+    fn others_ended(&self, cursor: &mut Cursor<'_>, separator: Class, end: Class, part: Part, first: Gathered) -> Result<Gathered, Refusal>
+        requires depth { self.now.depth ≤ 1000 }
+        requires places { self.now.places ≤ 9 }
+        requires nests { Nests self.now.depth self.now.places (F.pre self.now.part) (F.post self.now.part) }
+        requires sound { is_token separator ≡ true }
+        requires bounded { Bounded (deeper_by part.is_deeper) self.now.depth first.trees first.height }
+        requires last { first.last < 2 ^ 32 - 1 }
+        ensures reads { Reads (read self.now.depth (reading.others_ended separator end (part_of part.is_deeper self.now.places part.due part.least) first) cursor.old.input) result cursor.new.input }
+        ensures kept { cursor.new.before ≡ cursor.old.before }
+        ensures bounded { IfOk result (λ g. Bounded (deeper_by part.is_deeper) self.now.depth g.trees g.height) }
+        ensures last { IfOk result (λ g. g.last < 2 ^ 32 - 1) }
+    {
+        let mut all = first;
+        let mut turns = self.depth + cursor.len();
+        'elements: while cursor.shows(separator) {
+            cursor.advance();
+            if cursor.shows(end) {
+                return Ok(all.ended());
+            }
+            all = self.element_after(cursor, part, all)?;
+            if turns == 0 {
+                return Err(Refusal::TooDeep(cursor.place()));
+            }
+            turns -= 1;
+        }
+        Ok(all)
+    }
+
+    /// One or more elements from a place on.
+    #[tactic(auto, unfolding(c_syntax::specs::Reading::many))]
+    fn many(&self, cursor: &mut Cursor<'_>, repetition: Repetition, part: Part, start: usize) -> Result<Gathered, Refusal>
+        requires depth { self.now.depth ≤ 1000 }
+        requires places { self.now.places ≤ 9 }
+        requires nests { Nests self.now.depth self.now.places (F.pre self.now.part) (F.post self.now.part) }
+        requires sound { is_sound repetition ≡ true }
+        requires start { start < 2 ^ 32 - 1 }
+        ensures reads { Reads (read self.now.depth (reading.many repetition part.due (part_of part.is_deeper self.now.places part.due part.least) start) cursor.old.input) result cursor.new.input }
+        ensures kept { cursor.new.before ≡ cursor.old.before }
+        ensures bounded { IfOk result (λ g. Bounded (deeper_by part.is_deeper) self.now.depth g.trees g.height) }
+        ensures last { IfOk result (λ g. g.last < 2 ^ 32 - 1) }
+    {
+        let first = self.element_after(cursor, part, Gathered::none_at(start))?;
+        match repetition {
+            Repetition::Ended { separator, end } => self.others_ended(cursor, separator, end, part, first),
+            _ => self.others(cursor, repetition, part, first),
+        }
+    }
+}
+
+fn separator_of(repetition: Repetition) -> Option<Class>
+    ensures { result ≡ reading.separator_of repetition }
+{
+    match repetition {
+        Repetition::Many { separator, .. } | Repetition::Spliced { separator, .. } => separator,
+        Repetition::Ended { separator, .. } => Some(separator),
+        _ => None,
+    }
+}
