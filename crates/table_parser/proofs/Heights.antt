@@ -5,7 +5,7 @@ use Rattle.c_forms.specs.Measures.{star}
 use Rattle.c_forms.specs.declared.forms.Form.{Form}
 use Rattle.c_trees.specs.Counts.{high}
 use Rattle.c_reader.specs.Readers.{Found}
-use Rattle.c_syntax.specs.Reading.{Gathered, with_last}
+use Rattle.c_syntax.specs.Reading.{Gathered, Listed, with_last, list_from, joined, one}
 use Rattle.table_parser.specs.Founds.{Bounded}
 
 pub low_node : (f : Form) (trees : List Plain) (height : ℕ) → Bounded (star f) 1000 trees height → max (star f) height ≤ 1000 → star f + high (forest trees) ≤ 1000
@@ -24,3 +24,9 @@ joined_bounded k d ts us g h b c = let e = high_append ts us in let x = b.covers
 
 pub with_last_bounded : (k d : ℕ) (g : Gathered) (x : Found) (j : ℕ) (h : Gathered) → h ≡ with_last g x j → Bounded k d g.trees g.height → Bounded k d (x.tree ∷ []) x.height → Bounded k d h.trees h.height
 with_last_bounded k d g x j h e b c = subst (λ h. Bounded k d h.trees h.height) (sym e) (joined_bounded k d g.trees (x.tree ∷ []) g.height x.height b c)
+
+pub list_bounded : (k d start : ℕ) (g : Gathered) (x : Found) → x ≡ list_from start g → Bounded k d g.trees g.height → Bounded k d (x.tree ∷ []) x.height
+list_bounded k d start g x e b = let c = b.covers in subst (λ x. Bounded k d (x.tree ∷ []) x.height) (sym e) (record { covers = omega (arith, c); low = b.low })
+
+pub with_bounded : (k d : ℕ) (g : Listed) (x : Found) (h : Listed) → h ≡ joined g (one x) → Bounded k d g.trees g.height → Bounded k d (x.tree ∷ []) x.height → Bounded k d h.trees h.height
+with_bounded k d g x h e b c = subst (λ h. Bounded k d h.trees h.height) (sym e) (joined_bounded k d g.trees (x.tree ∷ []) g.height x.height b c)

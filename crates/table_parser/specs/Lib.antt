@@ -5,3 +5,4 @@ pub mod Codes
 pub mod Nests
 pub mod Sound
 pub mod Turns
+pub mod Filled

@@ -1,7 +1,8 @@
 //! A place among tokens, and what is known there.
 
-ghost use Rattle.std.specs.Prelude.{◌≡◌, ◌≢◌, ◌<◌, ◌≤◌, ◌^◌, ◌-◌, IfOk, IfErr, OnOk, OnErr, length, map, nat_eq};
+ghost use Rattle.std.specs.Prelude.{◌≡◌, ◌≢◌, ◌<◌, ◌≤◌, ◌^◌, ◌-◌, IfOk, IfErr, OnOk, OnErr, length, map, nat_eq, false};
 ghost use Rattle.c_tokens.specs.ClassNumbers.{class_number};
+ghost use Rattle.c_forms.specs.Sets.{has, held_class};
 ghost use Rattle.c_reader.specs.Readers as reader;
 ghost use Rattle.c_reader.specs.Readers.{Reads, here};
 ghost use Rattle.c_reader.specs.States as states;
@@ -10,7 +11,8 @@ ghost use Rattle.c_reader.specs.declared.refusal.Refusal.TheVariants as refusal;
 ghost use Rattle.c_syntax.specs.Reading.{is_class};
 ghost use Rattle.table_parser.specs.Cursors.{shape_of, seen, onward, changed};
 
-use c_forms::Event;
+use crate::decisions::holds;
+use c_forms::{Event, Form};
 use c_reader::Refusal;
 use c_tokens::{Class, Shape, Token};
 use reader_states::Attempt;
@@ -121,6 +123,21 @@ impl<'a> Cursor<'a> {
         ensures kept { self.new.before ≡ self.old.before }
     {
         if self.shows(class) {
+            self.advance();
+            Ok(())
+        } else {
+            Err(self.refuse())
+        }
+    }
+
+    /// Takes the next token if it is the one that a form holds.
+    #[tactic(auto, using(crate::proofs::Sets::has_not))]
+    pub fn take_held(&mut self, form: Form) -> Result<(), Refusal>
+        requires token { has (held_class form) 118 ≡ false }
+        ensures reads { Reads (reader.pick (reader.only (has (held_class form) (here self.old.input).class)) self.old.input) result self.new.input }
+        ensures kept { self.new.before ≡ self.old.before }
+    {
+        if holds(form, self.look().class) {
             self.advance();
             Ok(())
         } else {

@@ -1,15 +1,17 @@
 //! Reads sorts by the table of forms.
 
 ghost use Rattle.std.specs.Prelude.{◌≡◌, ◌≢◌, ◌≤◌, ◌<◌, ◌+◌, ◌-◌, ◌^◌, ◌∷◌, [], IfOk, true};
+ghost use Rattle.c_forms.specs.Sets.{starts};
 ghost use Rattle.c_reader.specs.Readers.{Reads, here};
 ghost use Rattle.c_syntax.specs.Reading as reading;
+ghost use Rattle.table_parser.specs.Filled.{before_of};
 ghost use Rattle.table_parser.specs.Founds.{Bounded};
 ghost use Rattle.table_parser.specs.Nests.{Nests, read, part_of, deeper_by};
 ghost use Rattle.table_parser.specs.Sound.{is_sound, is_token};
 
 use crate::cursor::Cursor;
 use crate::found::{Found, Gathered};
-use crate::starts::goes_on_with;
+use crate::starts::{goes_on_with, may_begin, may_begin_element};
 use c_forms::{Repetition, Sort};
 use c_reader::Refusal;
 use c_tokens::Class;
@@ -34,6 +36,14 @@ pub struct Part {
     is_deeper: bool,
     due: Sort,
     least: u8,
+}
+
+/// What stood before a piece: an optional part that is absent, one that is there, or something else.
+#[derive(Clone, Copy)]
+pub enum Before {
+    Usual,
+    Missing,
+    Taken,
 }
 
 impl<
@@ -169,6 +179,88 @@ impl<
             Repetition::Ended { separator, end } => self.others_ended(cursor, separator, end, part, first),
             _ => self.others(cursor, repetition, part, first),
         }
+    }
+
+    /// An element that may be absent.
+    fn at_most_one(&self, cursor: &mut Cursor<'_>, part: Part, start: usize) -> Result<Gathered, Refusal>
+        requires depth { self.now.depth ≤ 1000 }
+        requires places { self.now.places ≤ 9 }
+        requires nests { Nests self.now.depth self.now.places (F.pre self.now.part) (F.post self.now.part) }
+        requires start { start < 2 ^ 32 - 1 }
+        ensures reads { Reads (read self.now.depth (reading.at_most_one (part_of part.is_deeper self.now.places part.due part.least) (starts part.due) start) cursor.old.input) result cursor.new.input }
+        ensures kept { cursor.new.before ≡ cursor.old.before }
+        ensures bounded { IfOk result (λ g. Bounded (deeper_by part.is_deeper) self.now.depth g.trees g.height) }
+        ensures last { IfOk result (λ g. g.last < 2 ^ 32 - 1) }
+    {
+        if may_begin(part.due, cursor.look().class) {
+            self.element_after(cursor, part, Gathered::none_at(start))
+        } else {
+            Ok(Gathered::none_at(start))
+        }
+    }
+
+    /// Any number of elements, or at least one.
+    fn any_number(&self, cursor: &mut Cursor<'_>, is_some: bool, repetition: Repetition, part: Part, start: usize) -> Result<Gathered, Refusal>
+        requires depth { self.now.depth ≤ 1000 }
+        requires places { self.now.places ≤ 9 }
+        requires nests { Nests self.now.depth self.now.places (F.pre self.now.part) (F.post self.now.part) }
+        requires sound { is_sound repetition ≡ true }
+        requires start { start < 2 ^ 32 - 1 }
+        ensures reads { Reads (read self.now.depth (reading.any_number is_some repetition part.due (part_of part.is_deeper self.now.places part.due part.least) start) cursor.old.input) result cursor.new.input }
+        ensures kept { cursor.new.before ≡ cursor.old.before }
+        ensures bounded { IfOk result (λ g. Bounded (deeper_by part.is_deeper) self.now.depth g.trees g.height) }
+        ensures last { IfOk result (λ g. g.last < 2 ^ 32 - 1) }
+    {
+        if is_some {
+            self.many(cursor, repetition, part, start)
+        } else if may_begin_element(repetition, part.due, cursor.look().class) {
+            self.many(cursor, repetition, part, start)
+        } else {
+            Ok(Gathered::none_at(start))
+        }
+    }
+
+    fn gathered_from(&self, cursor: &mut Cursor<'_>, repetition: Repetition, part: Part, before: Before, start: usize) -> Result<Gathered, Refusal>
+        requires depth { self.now.depth ≤ 1000 }
+        requires places { self.now.places ≤ 9 }
+        requires nests { Nests self.now.depth self.now.places (F.pre self.now.part) (F.post self.now.part) }
+        requires sound { is_sound repetition ≡ true }
+        requires start { start < 2 ^ 32 - 1 }
+        ensures reads { Reads (read self.now.depth (reading.gathered_by repetition part.due (part_of part.is_deeper self.now.places part.due part.least) (before_of before) start) cursor.old.input) result cursor.new.input }
+        ensures kept { cursor.new.before ≡ cursor.old.before }
+        ensures bounded { IfOk result (λ g. Bounded (deeper_by part.is_deeper) self.now.depth g.trees g.height) }
+        ensures last { IfOk result (λ g. g.last < 2 ^ 32 - 1) }
+    {
+        match repetition {
+            Repetition::Optional | Repetition::Greedy => self.at_most_one(cursor, part, start),
+            Repetition::Due => match before {
+                Before::Missing => self.element_after(cursor, part, Gathered::none_at(start)),
+                Before::Usual | Before::Taken => self.at_most_one(cursor, part, start),
+            },
+            Repetition::All => self.many(cursor, repetition, part, start),
+            Repetition::Any => self.any_number(cursor, false, repetition, part, start),
+            Repetition::Many { least, .. } => self.any_number(cursor, least == 1, repetition, part, start),
+            Repetition::Spliced { least, .. } => self.any_number(cursor, least == 1, repetition, part, start),
+            Repetition::Ended { .. } => self.many(cursor, repetition, part, start),
+        }
+    }
+
+    /// The elements of a repetition, and the place where they begin.
+    #[tactic(auto, unfolding(c_syntax::specs::Reading::gathered))]
+    fn gathered(&self, cursor: &mut Cursor<'_>, repetition: Repetition, part: Part, before: Before) -> Result<(usize, Gathered), Refusal>
+        requires depth { self.now.depth ≤ 1000 }
+        requires places { self.now.places ≤ 9 }
+        requires nests { Nests self.now.depth self.now.places (F.pre self.now.part) (F.post self.now.part) }
+        requires sound { is_sound repetition ≡ true }
+        ensures reads { Reads (read self.now.depth (reading.gathered repetition part.due (part_of part.is_deeper self.now.places part.due part.least) (before_of before)) cursor.old.input) result cursor.new.input }
+        ensures start { IfOk result (λ g. g.0 < 2 ^ 32 - 1) }
+        ensures kept { cursor.new.before ≡ cursor.old.before }
+        ensures bounded { IfOk result (λ g. Bounded (deeper_by part.is_deeper) self.now.depth g.1.trees g.1.height) }
+        ensures last { IfOk result (λ g. g.1.last < 2 ^ 32 - 1) }
+    {
+        let start = cursor.place();
+        let all = self.gathered_from(cursor, repetition, part, before, start)?;
+        Ok((start, all))
     }
 }
 
