@@ -4,3 +4,4 @@ pub mod Levels
 pub mod Loops
 pub mod Separators
 pub mod Elements
+pub mod Pushed

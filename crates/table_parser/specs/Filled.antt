@@ -14,16 +14,13 @@ use Rattle.c_syntax.specs.Allowed.{may_happen}
 use Rattle.c_syntax.specs.Reading.{Parts, Listed, Before, Usual, Missing, Taken, one, joined, gathered, list_from, inside, before_by, is_absent, is_class}
 use Rattle.table_parser.specs.declared.grammar.Before.{Before as RustBefore}
 use Rattle.table_parser.specs.declared.grammar.Before.TheVariants as the_before
+use Rattle.table_parser.specs.Founds.{is_none}
 use Rattle.table_parser.specs.Sound.{is_token, is_sound}
 
 abbrev pub before_of : RustBefore → Before
 before_of the_before.Usual = Usual
 before_of the_before.Missing = Missing
 before_of the_before.Taken = Taken
-
-abbrev pub is_none : List Plain → Bool
-is_none [] = true
-is_none (t ∷ ts) = false
 
 -- a list that may end in its separator is followed by no part that depends on it
 abbrev pub before_after : Repetition → List Plain → Before

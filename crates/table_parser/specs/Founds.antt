@@ -1,5 +1,5 @@
 -- What is read, and how high it is.
-use Rattle.std.specs.Prelude.{ℕ, ◌+◌, ◌≤◌, max, List}
+use Rattle.std.specs.Prelude.{ℕ, ◌+◌, ◌≤◌, max, Bool, true, false, List, [], ◌∷◌}
 use Rattle.c_forms.specs.Forests.{Plain, forest}
 use Rattle.c_trees.specs.Counts.{high}
 use Rattle.c_reader.specs.Readers.{Found}
@@ -10,3 +10,7 @@ use Rattle.c_syntax.specs.Reading.{Listed, Gathered}
 pub record Bounded (deeper depth : ℕ) (trees : List Plain) (height : ℕ) : Type 0 where
   pub covers : high (forest trees) + deeper ≤ max deeper height
   pub low : height ≤ depth
+
+abbrev pub is_none : List Plain → Bool
+is_none [] = true
+is_none (t ∷ ts) = false

@@ -1,12 +1,12 @@
 //! What is read: trees, and how high they are as they are spelled.
 
-ghost use Rattle.std.specs.Prelude.{◌≡◌, ◌≢◌, ◌<◌, ◌≤◌, ◌^◌, ◌-◌, ◌∷◌, [], max, IfOk, IfErr, IsTrue, ◌↔◌, true};
+ghost use Rattle.std.specs.Prelude.{◌≡◌, ◌≢◌, ◌<◌, ◌≤◌, ◌^◌, ◌-◌, ◌∷◌, [], max, IfOk, IfErr, true};
 ghost use Rattle.c_forms.specs.Forests.{forest};
 ghost use Rattle.c_forms.specs.Measures as measures;
 ghost use Rattle.c_forms.specs.Rules.{is_right};
 ghost use Rattle.c_reader.specs.declared.refusal.Refusal.TheVariants as refusal;
 ghost use Rattle.c_syntax.specs.Reading as reading;
-ghost use Rattle.table_parser.specs.Founds.{Bounded};
+ghost use Rattle.table_parser.specs.Founds.{Bounded, is_none};
 
 use crate::decisions::is_starred;
 use c_forms::{DeclaratorForm, Form};
@@ -158,7 +158,7 @@ impl Gathered {
     }
 
     pub fn is_empty(&self) -> bool
-        ensures { IsTrue result ↔ (self.now.trees ≡ []) }
+        ensures { result ≡ is_none self.now.trees }
     {
         self.trees.is_empty()
     }

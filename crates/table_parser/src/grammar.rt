@@ -1,18 +1,21 @@
 //! Reads sorts by the table of forms.
 
-ghost use Rattle.std.specs.Prelude.{◌≡◌, ◌≢◌, ◌≤◌, ◌<◌, ◌+◌, ◌-◌, ◌^◌, ◌∷◌, [], IfOk, true};
+ghost use Rattle.std.specs.Prelude.{◌≡◌, ◌≢◌, ◌≤◌, ◌<◌, ◌+◌, ◌-◌, ◌^◌, ◌∷◌, [], IfOk, Ok, true};
+ghost use Rattle.c_forms.specs.Forests.{forest};
+ghost use Rattle.c_forms.specs.Measures.{star};
+ghost use Rattle.c_forms.specs.Rules.{is_right};
 ghost use Rattle.c_forms.specs.Sets.{starts};
-ghost use Rattle.c_reader.specs.Readers.{Reads, here};
+ghost use Rattle.c_reader.specs.Readers.{Input, Reads, here};
 ghost use Rattle.c_syntax.specs.Reading as reading;
-ghost use Rattle.table_parser.specs.Filled.{before_of};
+ghost use Rattle.table_parser.specs.Filled.{are_sound, before_after, before_of, filled, skips};
 ghost use Rattle.table_parser.specs.Founds.{Bounded};
 ghost use Rattle.table_parser.specs.Nests.{Nests, read, part_of, deeper_by};
 ghost use Rattle.table_parser.specs.Sound.{is_sound, is_token};
 
 use crate::cursor::Cursor;
-use crate::found::{Found, Gathered};
+use crate::found::{Found, Gathered, Listed, node};
 use crate::starts::{goes_on_with, may_begin, may_begin_element};
-use c_forms::{Repetition, Sort};
+use c_forms::{DeclaratorForm, Form, Piece, Repetition, Sort};
 use c_reader::Refusal;
 use c_tokens::Class;
 use std::alloc::Global;
@@ -36,6 +39,14 @@ pub struct Part {
     is_deeper: bool,
     due: Sort,
     least: u8,
+}
+
+/// A node whose pieces are read: the sort that it is read as, its form, and how its parts are read.
+#[derive(Clone, Copy)]
+pub struct Owner {
+    is_deeper: bool,
+    own: Sort,
+    form: Form,
 }
 
 /// What stood before a piece: an optional part that is absent, one that is there, or something else.
@@ -262,6 +273,114 @@ impl<
         let all = self.gathered_from(cursor, repetition, part, before, start)?;
         Ok((start, all))
     }
+
+    /// The parts of pieces, after these. The first piece may be skipped.
+    #[tactic(auto, using(crate::proofs::Heights::bounds), unfolding(crate::specs::Filled::filled))]
+    fn filled(
+        &self,
+        cursor: &mut Cursor<'_>,
+        owner: Owner,
+        is_skipped: bool,
+        before: Before,
+        pieces: &[Piece],
+        done: Listed,
+    ) -> Result<Listed, Refusal>
+        requires depth { self.now.depth ≤ 1000 }
+        requires places { self.now.places ≤ 9 }
+        requires nests { Nests self.now.depth self.now.places (F.pre self.now.part) (F.post self.now.part) }
+        requires sound { are_sound owner.form pieces.now ≡ true }
+        requires bounded { Bounded (deeper_by owner.is_deeper) self.now.depth done.trees done.height }
+        ensures reads { Reads (read self.now.depth (filled (part_of owner.is_deeper self.now.places) owner.own owner.form is_skipped (before_of before) pieces.now done) cursor.old.input) result cursor.new.input }
+        ensures kept { cursor.new.before ≡ cursor.old.before }
+        ensures bounded { IfOk result (λ g. Bounded (deeper_by owner.is_deeper) self.now.depth g.trees g.height) }
+    {
+        match pieces.split_first() {
+            None => Ok(done),
+            Some((piece, rest)) => {
+                if is_skipped {
+                    return self.filled(cursor, owner, false, Before::Usual, rest, done);
+                }
+                match *piece {
+                    Piece::Token(class) => {
+                        cursor.take(class)?;
+                        self.filled(cursor, owner, false, Before::Usual, rest, done)
+                    }
+                    Piece::Maybe(class) => {
+                        if cursor.shows(class) {
+                            cursor.advance();
+                            self.filled(cursor, owner, false, Before::Usual, rest, done)
+                        } else {
+                            self.filled(cursor, owner, false, Before::Usual, rest, done)
+                        }
+                    }
+                    Piece::Own => {
+                        cursor.take_held(owner.form)?;
+                        self.filled(cursor, owner, false, Before::Usual, rest, done)
+                    }
+                    Piece::One(due, least) => {
+                        let part = Part {
+                            is_deeper: owner.is_deeper,
+                            due: inside(owner.own, due),
+                            least,
+                        };
+                        let found = self.part(cursor, part)?;
+                        let after = before_by(is_absent(&found));
+                        let done = done.with(self.alloc, found)?;
+                        self.filled(cursor, owner, false, after, rest, done)
+                    }
+                    Piece::Group(repetition, due, least) => {
+                        let part = Part {
+                            is_deeper: owner.is_deeper,
+                            due,
+                            least,
+                        };
+                        let (start, all) = self.gathered(cursor, repetition, part, before)?;
+                        let is_skipped = skips(repetition, all.is_ended());
+                        let after = before_after(repetition, &all);
+                        let list = all.list_from(self.alloc, start)?;
+                        let done = done.with(self.alloc, list)?;
+                        self.filled(cursor, owner, is_skipped, after, rest, done)
+                    }
+                    Piece::Then(event) => {
+                        if !cursor.attempt().may_happen(event) {
+                            return Err(cursor.refuse());
+                        }
+                        cursor.happens(event)?;
+                        self.filled(cursor, owner, false, before, rest, done)
+                    }
+                    Piece::TypeTokens | Piece::KindName | Piece::Rest(_) | Piece::Anything => Err(cursor.refuse()),
+                }
+            }
+        }
+    }
+
+    /// A node from a place on, of these parts and those of the pieces that are left.
+    #[tactic(auto, using(crate::proofs::Pushed::completions))]
+    fn completed(
+        &self,
+        cursor: &mut Cursor<'_>,
+        owner: Owner,
+        start: usize,
+        done: Listed,
+        pieces: &[Piece],
+    ) -> Result<Found, Refusal>
+        requires depth { self.now.depth ≤ 1000 }
+        requires places { self.now.places ≤ 9 }
+        requires nests { Nests self.now.depth self.now.places (F.pre self.now.part) (F.post self.now.part) }
+        requires sound { are_sound owner.form pieces.now ≡ true }
+        requires deeper { owner.is_deeper ≡ reading.is_starred owner.form }
+        requires room { star owner.form ≤ self.now.depth }
+        requires start { start < 2 ^ 32 - 1 }
+        requires bounded { Bounded (deeper_by owner.is_deeper) self.now.depth done.trees done.height }
+        requires right { (g : reading.Listed) (j : Input) → read self.now.depth (reading.pieces_in (part_of owner.is_deeper self.now.places) owner.own owner.form reading.Usual pieces.now) cursor.old.input ≡ Ok (g, j) → is_right owner.form (forest (reading.joined done g).trees) ≡ true }
+        ensures reads { Reads (read self.now.depth (reading.completed (part_of owner.is_deeper self.now.places) owner.own owner.form start done pieces.now) cursor.old.input) result cursor.new.input }
+        ensures kept { cursor.new.before ≡ cursor.old.before }
+        ensures bounded { IfOk result (λ x. Bounded 0 self.now.depth (x.tree ∷ []) x.height) }
+    {
+        let parts = self.filled(cursor, owner, false, Before::Usual, pieces, done)?;
+        let end = cursor.place();
+        Ok(node(self.alloc, owner.form, start, end, parts)?)
+    }
 }
 
 fn separator_of(repetition: Repetition) -> Option<Class>
@@ -271,5 +390,62 @@ fn separator_of(repetition: Repetition) -> Option<Class>
         Repetition::Many { separator, .. } | Repetition::Spliced { separator, .. } => separator,
         Repetition::Ended { separator, .. } => Some(separator),
         _ => None,
+    }
+}
+
+/// What stood before the next piece, after a part that is absent or not.
+fn before_by(is_absent: bool) -> Before
+    ensures { before_of result ≡ reading.before_by is_absent }
+{
+    if is_absent {
+        Before::Missing
+    } else {
+        Before::Taken
+    }
+}
+
+/// Whether a part is a declarator that is absent.
+fn is_absent(found: &Found) -> bool
+    ensures { result ≡ reading.is_absent found.now.tree }
+{
+    match found.form() {
+        Form::Declarator(form) => match form {
+            DeclaratorForm::Absent => true,
+            _ => false,
+        },
+        _ => false,
+    }
+}
+
+/// A list that may end in its separator is followed by no part that depends on it.
+fn before_after(repetition: Repetition, all: &Gathered) -> Before
+    ensures { before_of result ≡ before_after repetition all.now.trees }
+{
+    match repetition {
+        Repetition::Ended { .. } => Before::Usual,
+        _ => before_by(all.is_empty()),
+    }
+}
+
+/// Where the separator was read, the piece for it is skipped.
+fn skips(repetition: Repetition, is_ended: bool) -> bool
+    ensures { result ≡ skips repetition is_ended }
+{
+    match repetition {
+        Repetition::Ended { .. } => is_ended,
+        _ => false,
+    }
+}
+
+/// A declarator inside one is of the same sort; inside a member's with a name there is one with a name.
+fn inside(own: Sort, due: Sort) -> Sort
+    ensures { result ≡ reading.inside own due }
+{
+    match due {
+        Sort::InnerDeclarator => match own {
+            Sort::MemberName => Sort::Declarator,
+            _ => own,
+        },
+        _ => due,
     }
 }
