@@ -9,16 +9,17 @@ use Rattle.c_forms.specs.declared.pieces.Piece.{Piece}
 use Rattle.c_forms.specs.declared.pieces.Piece.TheVariants.{Token, Maybe, Own, TypeTokens, KindName, One, Group, Rest, Anything, Then}
 use Rattle.c_forms.specs.declared.forms.Form.{Form}
 use Rattle.c_forms.specs.Forests.{Plain, forest}
+use Rattle.c_forms.specs.Measures.{pieces}
 use Rattle.c_forms.specs.Rules.{is_right}
 use Rattle.c_reader.specs.declared.refusal.Refusal.{Refusal}
 use Rattle.c_reader.specs.States.{happens}
 use Rattle.c_reader.specs.Readers.{Reader, Found, Outcome, Input, and_then, choose, Give, Next, Change, Refuse, here, next, change}
 use Rattle.c_syntax.specs.Allowed.{may_happen}
 use Rattle.c_syntax.specs.Reading as Reading
-use Rattle.c_syntax.specs.Reading.{Parts, Listed, Gathered, Before, nothing, one, joined, with_first, pieces_in, completed, list_from, is_class, before_by, is_absent}
+use Rattle.c_syntax.specs.Reading.{Parts, Listed, Gathered, Before, nothing, one, joined, with_first, pieces_in, completed, list_from, is_class, is_starred, before_by, is_absent}
 use Rattle.table_parser.specs.Filled.{filled}
 use Rattle.table_parser.specs.Founds.{is_none}
-use Rattle.table_parser.specs.Nests.{read}
+use Rattle.table_parser.specs.Nests.{read, part_of}
 
 abbrev pub onto : Listed → Listed → Input → Outcome Listed
 onto done g j = Ok (joined done g, j)
@@ -125,3 +126,9 @@ module _ (d : ℕ) (part : Parts) (own : Sort) (f : Form) (start : ℕ) (done : 
   right_parts all j R e = right_by f done all j (read d (pieces_in part own f Reading.Usual ps) i) R (sym (pushed d part own f Reading.Usual ps done i) ∙ e)
 
 pub ruleset completions = (completed_ok, completed_broken)
+
+pub right_whole : (d places : ℕ) (own : Sort) (f : Form) (i : Input) (b : Bool) (ps : List Piece) (n : Listed) → b ≡ is_starred f → ps ≡ pieces f → n ≡ nothing
+    → ((g : Listed) (j : Input) → read d (pieces_in (part_of (is_starred f) places) own f Reading.Usual (pieces f)) i ≡ Ok (g, j) → is_right f (forest (joined nothing g).trees) ≡ true)
+    → (g : Listed) (j : Input) → read d (pieces_in (part_of b places) own f Reading.Usual ps) i ≡ Ok (g, j) → is_right f (forest (n.trees ++ g.trees)) ≡ true
+right_whole d places own f i b ps n e k m R g j h = subst (λ n. is_right f (forest (n.trees ++ g.trees)) ≡ true) (sym m)
+    (R g j (subst (λ b. read d (pieces_in (part_of b places) own f Reading.Usual (pieces f)) i ≡ Ok (g, j)) e (subst (λ ps. read d (pieces_in (part_of b places) own f Reading.Usual ps) i ≡ Ok (g, j)) k h)))

@@ -1,7 +1,7 @@
 //! What is read: trees, and how high they are as they are spelled.
 
-ghost use Rattle.std.specs.Prelude.{◌≡◌, ◌≢◌, ◌<◌, ◌≤◌, ◌^◌, ◌-◌, ◌∷◌, [], max, IfOk, IfErr, true};
-ghost use Rattle.c_forms.specs.Forests.{forest};
+ghost use Rattle.std.specs.Prelude.{◌≡◌, ◌≢◌, ◌<◌, ◌≤◌, ◌^◌, ◌+◌, ◌-◌, ◌∷◌, [], max, IfOk, IfErr, true};
+ghost use Rattle.c_forms.specs.Forests.{empty, forest};
 ghost use Rattle.c_forms.specs.Measures as measures;
 ghost use Rattle.c_forms.specs.Rules.{is_right};
 ghost use Rattle.c_reader.specs.declared.refusal.Refusal.TheVariants as refusal;
@@ -36,6 +36,19 @@ impl Model for Found {
 }
 
 impl Found {
+    /// The node of one token, of a form that does not count for the height.
+    pub fn leaf(form: Form, place: usize) -> Found
+        requires place { place < 2 ^ 32 - 1 }
+        requires low { measures.star form ≡ 0 }
+        requires right { is_right form empty ≡ true }
+        ensures { result ≡ reading.node form place (place + 1) reading.nothing }
+    {
+        Found {
+            tree: Tree::leaf(form, spanned(place, place + 1)),
+            height: 0,
+        }
+    }
+
     pub fn into_tree(self) -> Tree
         ensures { result ≡ self.tree }
     {

@@ -1,11 +1,14 @@
 //! Reads sorts by the table of forms.
 
-ghost use Rattle.std.specs.Prelude.{◌≡◌, ◌≢◌, ◌≤◌, ◌<◌, ◌+◌, ◌-◌, ◌^◌, ◌∷◌, [], IfOk, Ok, true};
+ghost use Rattle.std.specs.Prelude.{◌≡◌, ◌≢◌, ◌≤◌, ◌<◌, ◌+◌, ◌-◌, ◌^◌, ◌∷◌, [], IfOk, IfErr, OnOk, Ok, true};
 ghost use Rattle.c_forms.specs.Forests.{forest};
+ghost use Rattle.c_forms.specs.Measures as measures;
 ghost use Rattle.c_forms.specs.Measures.{star};
 ghost use Rattle.c_forms.specs.Rules.{is_right};
 ghost use Rattle.c_forms.specs.Sets.{starts};
 ghost use Rattle.c_reader.specs.Readers.{Input, Reads, here};
+ghost use Rattle.c_reader.specs.declared.refusal.Refusal.TheVariants as refusal;
+ghost use Rattle.c_syntax.specs.Grammar as grammar;
 ghost use Rattle.c_syntax.specs.Reading as reading;
 ghost use Rattle.table_parser.specs.Filled.{are_sound, before_after, before_of, filled, skips};
 ghost use Rattle.table_parser.specs.Founds.{Bounded};
@@ -13,11 +16,13 @@ ghost use Rattle.table_parser.specs.Nests.{Nests, read, part_of, deeper_by};
 ghost use Rattle.table_parser.specs.Sound.{is_sound, is_token};
 
 use crate::cursor::Cursor;
+use crate::decisions::is_starred;
 use crate::found::{Found, Gathered, Listed, node};
 use crate::starts::{goes_on_with, may_begin, may_begin_element};
 use c_forms::{DeclaratorForm, Form, Piece, Repetition, Sort};
 use c_reader::Refusal;
 use c_tokens::Class;
+use form_rows::pieces;
 use std::alloc::Global;
 
 /// How many nodes that do not count for the height may lie in one another.
@@ -380,6 +385,41 @@ impl<
         let parts = self.filled(cursor, owner, false, Before::Usual, pieces, done)?;
         let end = cursor.place();
         Ok(node(self.alloc, owner.form, start, end, parts)?)
+    }
+
+    /// A level is needed where a node counts for the height.
+    fn charge(&self, cursor: &Cursor<'_>, is_charged: bool) -> Result<(), Refusal>
+        ensures room { OnOk result (deeper_by is_charged ≤ self.now.depth) }
+        ensures refused { IfErr result (λ e. (is_charged ≡ true) × (self.now.depth ≡ 0) × (e ≡ refusal.TooDeep cursor.now.input.at.place)) }
+    {
+        if is_charged {
+            cursor.fits(0, self.depth)
+        } else {
+            Ok(())
+        }
+    }
+
+    /// A node of a form that is read as a sort.
+    #[tactic(auto, using(crate::proofs::Heights::deeper_star), unfolding(c_syntax::specs::Grammar::whole))]
+    fn whole(&self, cursor: &mut Cursor<'_>, own: Sort, form: Form) -> Result<Found, Refusal>
+        requires depth { self.now.depth ≤ 1000 }
+        requires places { self.now.places ≤ 9 }
+        requires nests { Nests self.now.depth self.now.places (F.pre self.now.part) (F.post self.now.part) }
+        requires sound { are_sound form (measures.pieces form) ≡ true }
+        requires right { (g : reading.Listed) (j : Input) → read self.now.depth (reading.pieces_in (part_of (reading.is_starred form) self.now.places) own form reading.Usual (measures.pieces form)) cursor.old.input ≡ Ok (g, j) → is_right form (forest (reading.joined reading.nothing g).trees) ≡ true }
+        ensures reads { Reads (read self.now.depth (grammar.whole (grammar.in_place self.now.places) own form) cursor.old.input) result cursor.new.input }
+        ensures kept { cursor.new.before ≡ cursor.old.before }
+        ensures bounded { IfOk result (λ x. Bounded 0 self.now.depth (x.tree ∷ []) x.height) }
+    {
+        let is_deeper = is_starred(form);
+        self.charge(cursor, is_deeper)?;
+        let owner = Owner {
+            is_deeper,
+            own,
+            form,
+        };
+        let start = cursor.place();
+        self.completed(cursor, owner, start, Listed::nothing(), pieces(form))
     }
 }
 

@@ -7,3 +7,4 @@ mod decisions;
 mod found;
 mod grammar;
 mod starts;
+mod words;
