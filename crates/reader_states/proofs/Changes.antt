@@ -1,9 +1,9 @@
 -- What is known, by what is kept of it.
-use Rattle.std.proofs.Common.{◌≡◌, refl, ap, sym, subst, ◌∙◌, ℕ, suc, ◌+◌, ◌-◌, ◌<◌, ◌≤◌, Bool, true, false, List, [], ◌∷◌, ◌++◌, length, reverse, Option, Some, None, arith}
+use Rattle.std.proofs.Common.{◌≡◌, refl, ap, sym, subst, ◌∙◌, ℕ, suc, ◌-◌, ◌<◌, Bool, false, List, [], ◌∷◌, ◌++◌, length, reverse, Option, arith}
 use Rattle.std.proofs.lemmas.List.{length-append, length-reverse}
 use Rattle.c_tokens.specs.declared.token.Word.{Word}
 use Rattle.scope_tables.specs.declared.table.WordClass.{WordClass}
-use Rattle.scope_tables.specs.Frames.{Frame, declared, entered, steps_in}
+use Rattle.scope_tables.specs.Frames.{Frame, declared, entered}
 use Rattle.c_reader.specs.States.{Entry}
 use Rattle.reader_states.specs.Scopes.{Known, entry_as, entries_of, entries_at, entered as known_entered, left, with_entries, outer_of, first_late, lates_outside, before_in, IsKept, MayLeave}
 use Rattle.reader_states.proofs.Entries.{of-entered, of-declared, of-left, late-left, kept-deep, kept-entered, kept-declared, kept-left, reverse-push}
@@ -24,9 +24,10 @@ pub entering : (put_by : Option (List Frame)) (steps : ℕ) (lates : List Bool) 
     → IsKept put_by steps (length (lates ++ late ∷ [])) (entered frames) × (known_of put_by steps (lates ++ late ∷ []) false (entered frames) ≡ known_entered (known_of put_by steps lates late frames))
 entering put_by steps lates late frames h =
     let k = kept-entered put_by steps (length lates) frames h in
-    let more : length (lates ++ late ∷ []) ≡ suc (length lates) = length-append lates (late ∷ []) ∙ omega arith in
-    (subst (λ n. IsKept put_by steps n (entered frames)) (sym more) k.0,
-    same_known _ _ _ _ _ _ (ap (entries_of (entered frames)) (reverse-push lates late) ∙ of-entered late (reverse lates) frames (some put_by steps (length lates) frames h)) refl k.1)
+    let more : length (lates ++ late ∷ []) ≡ suc (length lates) = length-append lates (late ∷ []) ∙ omega arith in (
+      subst (λ n. IsKept put_by steps n (entered frames)) (sym more) k.0,
+      same_known _ _ _ _ _ _ (ap (entries_of (entered frames)) (reverse-push lates late) ∙ of-entered late (reverse lates) frames (some put_by steps (length lates) frames h)) refl k.1,
+    )
 
 pub declaring : (word : ℕ) (class : WordClass) (put_by : Option (List Frame)) (steps : ℕ) (lates : List Bool) (late : Bool) (frames : List Frame) → IsKept put_by steps (length lates) frames
     → IsKept put_by steps (length lates) (declared word class frames) × (known_of put_by steps lates late (declared word class frames) ≡ with_entries (entry_as class word ∷ []) (known_of put_by steps lates late frames))
@@ -40,9 +41,10 @@ pub leaving : (put_by : Option (List Frame)) (steps : ℕ) (lates fewer : List B
 leaving put_by steps lates fewer late frames h may e =
     let k = kept-left put_by steps (length lates) frames h may in
     let deep : length (reverse lates) < length frames = subst (λ n. n < length frames) (sym (length-reverse lates)) (kept-deep put_by steps (length lates) frames h) in
-    let less : length fewer ≡ length lates - 1 = sym (length-reverse fewer) ∙ ap length e ∙ one_fewer (reverse lates) ∙ ap (λ n. n - 1) (length-reverse lates) in
-    (subst (λ n. IsKept put_by steps n (outer_of frames)) (sym less) k.0,
-    same_known _ _ _ _ _ _ (ap (entries_of (outer_of frames)) e ∙ of-left (reverse lates) frames deep) (late-left (reverse lates) frames deep) k.1)
+    let less : length fewer ≡ length lates - 1 = sym (length-reverse fewer) ∙ ap length e ∙ one_fewer (reverse lates) ∙ ap (λ n. n - 1) (length-reverse lates) in (
+      subst (λ n. IsKept put_by steps n (outer_of frames)) (sym less) k.0,
+      same_known _ _ _ _ _ _ (ap (entries_of (outer_of frames)) e ∙ of-left (reverse lates) frames deep) (late-left (reverse lates) frames deep) k.1,
+    )
   where
     one_fewer : (xs : List Bool) → length (lates_outside xs) ≡ length xs - 1
     one_fewer [] = refl

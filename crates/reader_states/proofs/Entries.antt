@@ -1,15 +1,14 @@
 -- How scopes and their entries change together.
 use Rattle.std.proofs.Common.{◌≡◌, refl, ap, sym, subst, ◌∙◌, ℕ, zero, suc, ◌+◌, ◌-◌, ◌<◌, ◌≤◌, Bool, true, false, cond, List, [], ◌∷◌, ◌++◌, length, reverse, Option, Some, None, nat_eq, arith, nat_le, unwrap_or, true≢false}
 use Rattle.std.proofs.lemmas.Bool.Decides.{nat_tests}
-use Rattle.std.proofs.lemmas.List.{reverse-append, length-reverse}
+use Rattle.std.proofs.lemmas.List.{reverse-append}
 use Rattle.std.specs.Map.{lookup}
-use Rattle.c_tokens.specs.declared.token.Word.{Word}
 use Rattle.scope_tables.specs.declared.table.WordClass.{WordClass}
 use Rattle.scope_tables.specs.declared.table.WordClass.TheVariants.{TypeName, Value}
 use Rattle.scope_tables.specs.Frames.{Frame, declared, entered, undone, is_bare, steps_in, class_of, class_among, or_else, innermost as innermost_of, words_in}
 use Rattle.c_reader.specs.States.{Entry, outside, late_outside, innermost, is_type}
 use Rattle.c_reader.specs.States.Entry.{Edge, AsType, AsValue}
-use Rattle.reader_states.specs.Scopes.{entry_as, entries_in, first_late, lates_outside, entries_of, entries_at, outer_of, back, back_to, before_in, IsOver, IsKept, MayLeave}
+use Rattle.reader_states.specs.Scopes.{entry_as, entries_in, first_late, lates_outside, entries_of, entries_at, outer_of, back, back_to, before_in, IsKept, MayLeave}
 
 -- ---- entries
 
@@ -242,24 +241,28 @@ pub kept-entered : (put_by : Option (List Frame)) (steps edges : ℕ) (frames : 
 kept-entered (Some before) steps edges frames h = (omega arith, refl)
 kept-entered None steps edges frames h =
     let deep = kept-deep None steps edges frames h in
-    let same : back_to steps (entered frames) ≡ back_to steps frames = back-entered steps frames (omega (arith, deep)) h.within in
-    (record {
-      within = let e = steps-entered frames (omega (arith, deep)) in omega (arith, h.within, e);
-      scopes = subst (λ fs. suc edges + length fs ≡ length (entered frames)) (sym same) (omega (arith, h.scopes));
-      some = subst (λ fs. 0 < length fs) (sym same) h.some;
-    }, same)
+    let same : back_to steps (entered frames) ≡ back_to steps frames = back-entered steps frames (omega (arith, deep)) h.within in (
+      record {
+        within = let e = steps-entered frames (omega (arith, deep)) in omega (arith, h.within, e);
+        scopes = subst (λ fs. suc edges + length fs ≡ length (entered frames)) (sym same) (omega (arith, h.scopes));
+        some = subst (λ fs. 0 < length fs) (sym same) h.some;
+      },
+      same,
+    )
 
 pub kept-declared : (word : ℕ) (class : WordClass) (put_by : Option (List Frame)) (steps edges : ℕ) (frames : List Frame) → IsKept put_by steps edges frames
     → IsKept put_by steps edges (declared word class frames) × (before_in put_by steps (declared word class frames) ≡ before_in put_by steps frames)
 kept-declared word class (Some before) steps edges frames h = (subst (λ n. edges < n) (sym (length-declared word class frames)) h, refl)
 kept-declared word class None steps edges frames h =
     let deep = kept-deep None steps edges frames h in
-    let same : back_to steps (declared word class frames) ≡ back_to steps frames = back-declared word class steps frames (omega (arith, deep)) h.within in
-    (record {
-      within = let e = steps-declared word class frames (omega (arith, deep)) in omega (arith, h.within, e);
-      scopes = subst (λ fs. edges + length fs ≡ length (declared word class frames)) (sym same) (h.scopes ∙ sym (length-declared word class frames));
-      some = subst (λ fs. 0 < length fs) (sym same) h.some;
-    }, same)
+    let same : back_to steps (declared word class frames) ≡ back_to steps frames = back-declared word class steps frames (omega (arith, deep)) h.within in (
+      record {
+        within = let e = steps-declared word class frames (omega (arith, deep)) in omega (arith, h.within, e);
+        scopes = subst (λ fs. edges + length fs ≡ length (declared word class frames)) (sym same) (h.scopes ∙ sym (length-declared word class frames));
+        some = subst (λ fs. 0 < length fs) (sym same) h.some;
+      },
+      same,
+    )
 
 pub kept-left : (put_by : Option (List Frame)) (steps edges : ℕ) (frames : List Frame) → IsKept put_by steps edges frames → MayLeave put_by edges
     → IsKept put_by steps (edges - 1) (outer_of frames) × (before_in put_by steps (outer_of frames) ≡ before_in put_by steps frames)
@@ -268,21 +271,25 @@ kept-left (Some before) steps (suc edges) frames h may = (let e = length-outer f
 kept-left None steps edges frames h may =
     let two : 1 < length frames = omega (arith, h.scopes, h.some, may) in
     let l = left-over steps frames h.within (omega (arith, h.scopes, may)) two in
-    let e = length-outer frames two in
-    (record {
-      within = l.within;
-      scopes = subst (λ fs. edges - 1 + length fs ≡ length (outer_of frames)) (sym l.same) (omega (arith, h.scopes, e, may));
-      some = subst (λ fs. 0 < length fs) (sym l.same) h.some;
-    }, l.same)
+    let e = length-outer frames two in (
+      record {
+        within = l.within;
+        scopes = subst (λ fs. edges - 1 + length fs ≡ length (outer_of frames)) (sym l.same) (omega (arith, h.scopes, e, may));
+        some = subst (λ fs. 0 < length fs) (sym l.same) h.some;
+      },
+      l.same,
+    )
 
 pub kept-begun : (frames : List Frame) → 0 < length frames → IsKept None (steps_in frames) 0 frames × (before_in None (steps_in frames) frames ≡ frames)
 kept-begun frames some =
-    let same = back-end (steps_in frames) frames (omega arith) in
-    (record {
-      within = omega arith;
-      scopes = let e : length (back_to (steps_in frames) frames) ≡ length frames = ap length same in omega (arith, e);
-      some = subst (λ fs. 0 < length fs) (sym same) some;
-    }, same)
+    let same = back-end (steps_in frames) frames (omega arith) in (
+      record {
+        within = omega arith;
+        scopes = let e : length (back_to (steps_in frames) frames) ≡ length frames = ap length same in omega (arith, e);
+        some = subst (λ fs. 0 < length fs) (sym same) some;
+      },
+      same,
+    )
 
 -- ---- lists of the vector
 

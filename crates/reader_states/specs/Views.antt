@@ -1,5 +1,5 @@
 -- The state by what is kept of it.
-use Rattle.std.specs.Prelude.{ℕ, List, [], ◌∷◌, map, reverse, Option, option_map}
+use Rattle.std.specs.Prelude.{ℕ, List, map, reverse, option_map}
 use Rattle.c_tokens.specs.declared.token.Word.{Word}
 use Rattle.c_reader.specs.States.{Near as SpecNear, Kept as SpecKept}
 use Rattle.c_reader.specs.States.Near.{Bare as NothingNear, Parameters as ParametersNear, Other as OtherNear}

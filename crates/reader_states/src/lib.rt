@@ -4,5 +4,7 @@
 mod attempt;
 mod kept;
 mod scopes;
+#[cfg(test)]
+mod tests;
 
 pub use attempt::Attempt;

@@ -1,5 +1,4 @@
-use Rattle.std.proofs.Common.{◌∙◌, ap, arith, subst, ◌<◌}
-use Rattle.scope_tables.specs.Frames.{steps_in}
+use Rattle.std.proofs.Common.{◌∙◌, ap, subst, ◌<◌}
 use Rattle.reader_states.specs.Scopes.{back_to}
 use Rattle.reader_states.proofs.Entries.{back-undone}
 use Rattle.reader_states.proofs.scopes.undo_to.Goals as goal

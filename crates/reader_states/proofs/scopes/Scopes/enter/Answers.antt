@@ -1,5 +1,4 @@
 use Rattle.std.proofs.Common.{subst, sym, ap, ◌∙◌, length, ◌∷◌, [], ◌++◌, false}
-use Rattle.scope_tables.specs.Frames.{entered as frames_entered}
 use Rattle.reader_states.specs.Scopes.{IsKept, entered}
 use Rattle.reader_states.proofs.Changes.{entering, known_of}
 use Rattle.reader_states.proofs.scopes.Scopes.enter.Goals as goal

@@ -1,5 +1,5 @@
 use Rattle.std.proofs.Common.{◌≡◌, subst, sym, ap, ◌∙◌, length, reverse}
-use Rattle.reader_states.specs.Scopes.{IsKept, MayLeave, left, outer_of, first_late}
+use Rattle.reader_states.specs.Scopes.{IsKept, MayLeave, left, first_late}
 use Rattle.reader_states.proofs.Changes.{leaving, known_of, put-by}
 use Rattle.reader_states.proofs.scopes.Scopes.leave.Goals as goal
 
