@@ -1,12 +1,11 @@
 -- The elements of a list, turn by turn.
-use Rattle.std.proofs.Common.{◌≡◌, refl, ap, ◌∙◌, ℕ, zero, suc, ◌+◌, ◌-◌, ◌<◌, Bool, true, false, length, Ok, Err, arith}
+use Rattle.std.proofs.Common.{◌≡◌, refl, ap, ◌∙◌, ℕ, ◌+◌, ◌-◌, ◌<◌, true, false, length, Ok, Err}
 use Rattle.c_tokens.specs.declared.class.Class.{Class}
 use Rattle.c_forms.specs.declared.pieces.Sort.{Sort}
 use Rattle.c_forms.specs.declared.pieces.Repetition.{Repetition}
 use Rattle.c_reader.specs.declared.refusal.Refusal.{Refusal}
 use Rattle.c_reader.specs.declared.refusal.Refusal.TheVariants.{TooDeep}
-use Rattle.c_reader.specs.States.{Seen}
-use Rattle.c_reader.specs.Readers.{Reader, Found, Input, Turn, More, Last, here, next, and_then, choose, Bind, Give}
+use Rattle.c_reader.specs.Readers.{Reader, Found, Input, More, Last, here, next, and_then, Bind, Give}
 use Rattle.c_syntax.specs.Reading.{Gathered, goes, separated, separator_of, element_after, others, others_ended, ended_turn, is_class, ended}
 use Rattle.table_parser.specs.Nests.{read}
 use Rattle.table_parser.specs.Turns.{others_from, ended_from}
@@ -35,7 +34,6 @@ module _ (d : ℕ) (r : Repetition) (due : Sort) (element : Reader Found) (g : G
       → others_from d r due element n g i ≡ Err x
   unfolding others_from
   others_broken n x e o = broken d (goes r due) (λ _ g. separated (separator_of r) (element_after element g)) g i n x e o
-
 
 pub ruleset elements = (others_begin, others_on, others_out, others_over, others_broken)
 

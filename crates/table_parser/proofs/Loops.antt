@@ -1,9 +1,9 @@
 -- A loop of a reader, turn by turn.
-use Rattle.std.proofs.Common.{◌≡◌, refl, ap, ◌∙◌, ℕ, zero, suc, ◌-◌, ◌<◌, Bool, true, false, Ok, Err, arith}
+use Rattle.std.proofs.Common.{◌≡◌, refl, ap, ℕ, zero, suc, ◌-◌, ◌<◌, Bool, true, false, Ok, Err, arith}
 use Rattle.c_reader.specs.declared.refusal.Refusal.{Refusal}
 use Rattle.c_reader.specs.declared.refusal.Refusal.TheVariants.{TooDeep}
 use Rattle.c_reader.specs.States.{Seen}
-use Rattle.c_reader.specs.Readers.{Reader, Input, Outcome, Turn, More, Last, loop, here, turn_while, and_then, after, choose, Bind, Give}
+use Rattle.c_reader.specs.Readers.{Reader, Input, Outcome, Turn, More, Last, loop, here, turn_while, choose, Bind, Give}
 use Rattle.table_parser.specs.Nests.{read}
 
 pub chosen : {A : Type 0} (d : ℕ) (b : Bool) (r q : Reader A) (i : Input) → b ≡ true → read d (choose b r q) i ≡ read d r i

@@ -1,9 +1,6 @@
 -- Parts after others, as the reader of the grammar puts them together.
-use Rattle.std.proofs.Common.{◌≡◌, refl, sym, subst, ap, ◌∙◌, ℕ, ◌+◌, max, Bool, true, false, List, [], ◌∷◌, ◌++◌, Ok, Err, arith, append_assoc}
-use Rattle.c_tokens.specs.declared.class.Class.{Class}
-use Rattle.c_tokens.specs.ClassNumbers.{class_number}
+use Rattle.std.proofs.Common.{◌≡◌, refl, sym, subst, ap, ◌∙◌, ℕ, max, Bool, true, false, List, [], ◌∷◌, ◌++◌, Ok, Err, arith, append_assoc}
 use Rattle.c_forms.specs.declared.pieces.Sort.{Sort}
-use Rattle.c_forms.specs.declared.pieces.Repetition.{Repetition}
 use Rattle.c_forms.specs.declared.pieces.Repetition.TheVariants.{Optional, Greedy, Due, All, Any, Many, Spliced, Ended}
 use Rattle.c_forms.specs.declared.pieces.Piece.{Piece}
 use Rattle.c_forms.specs.declared.pieces.Piece.TheVariants.{Token, Maybe, Own, TypeTokens, KindName, One, Group, Rest, Anything, Then}
@@ -13,7 +10,7 @@ use Rattle.c_forms.specs.Measures.{pieces}
 use Rattle.c_forms.specs.Rules.{is_right}
 use Rattle.c_reader.specs.declared.refusal.Refusal.{Refusal}
 use Rattle.c_reader.specs.States.{happens}
-use Rattle.c_reader.specs.Readers.{Reader, Found, Outcome, Input, and_then, choose, Give, Next, Change, Refuse, here, next, change}
+use Rattle.c_reader.specs.Readers.{Reader, Found, Outcome, Input, and_then, choose, here, next, change}
 use Rattle.c_syntax.specs.Allowed.{may_happen}
 use Rattle.c_syntax.specs.Reading as Reading
 use Rattle.c_syntax.specs.Reading.{Parts, Listed, Gathered, Before, nothing, one, joined, with_first, pieces_in, completed, list_from, is_class, is_starred, before_by, is_absent}

@@ -1,7 +1,5 @@
 -- Separators of elements.
-use Rattle.std.proofs.Common.{◌≡◌, ◌≢◌, refl, ℕ, Bool, true, false, not, List, [], ◌∷◌, Option, Some, None, is_some, nat_eq, arith}
-use Rattle.std.proofs.lemmas.Grind.{common_steps}
-use Rattle.c_tokens.specs.declared.class.Class.{Class}
+use Rattle.std.proofs.Common.{◌≡◌, ◌≢◌, ℕ, true, not, [], ◌∷◌, Some, None, is_some, nat_eq, arith}
 use Rattle.c_tokens.specs.ClassNumbers.{class_number}
 use Rattle.c_forms.specs.declared.pieces.Sort.{Sort}
 use Rattle.c_forms.specs.declared.pieces.Repetition.{Repetition}

@@ -2,13 +2,11 @@
 use Rattle.std.specs.Prelude.{◌≤◌, ◌<◌, ◌^◌, ◌-◌, List, length, map}
 use Rattle.c_tokens.specs.declared.token.Token.{Token}
 use Rattle.c_tokens.specs.declared.token.Shape.{Shape}
-use Rattle.c_forms.specs.declared.pieces.Event.{Event}
 use Rattle.scope_tables.specs.Frames.{Frame}
 use Rattle.c_reader.specs.States as states
 use Rattle.c_reader.specs.States.{State}
 use Rattle.c_reader.specs.Tokens.{spot}
-use Rattle.c_reader.specs.Readers.{Input, here, next, change}
-use Rattle.reader_states.specs.Attempts.{Attempt}
+use Rattle.c_reader.specs.Readers.{Input, next, change}
 use Rattle.table_parser.specs.declared.cursor.Cursor.TheInside.{Inside}
 use Rattle.table_parser.specs.declared.cursor.Seen.{Seen}
 

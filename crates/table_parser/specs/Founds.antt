@@ -2,8 +2,6 @@
 use Rattle.std.specs.Prelude.{ℕ, ◌+◌, ◌≤◌, max, Bool, true, false, List, [], ◌∷◌}
 use Rattle.c_forms.specs.Forests.{Plain, forest}
 use Rattle.c_trees.specs.Counts.{high}
-use Rattle.c_reader.specs.Readers.{Found}
-use Rattle.c_syntax.specs.Reading.{Listed, Gathered}
 
 -- Trees that are read with so many levels left. Spelled they are at least as high as they are, and one higher where
 -- they are the parts of a node that counts for the height: then `deeper` is 1.

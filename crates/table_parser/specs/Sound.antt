@@ -1,5 +1,5 @@
 -- The end of the source is no token of a row.
-use Rattle.std.specs.Prelude.{ℕ, Bool, true, not, ◌&&◌, nat_eq, List, [], ◌∷◌, Option, Some, None}
+use Rattle.std.specs.Prelude.{Bool, true, not, nat_eq, Option, Some, None}
 use Rattle.c_tokens.specs.declared.class.Class.{Class}
 use Rattle.c_tokens.specs.ClassNumbers.{class_number}
 use Rattle.c_forms.specs.declared.pieces.Repetition.{Repetition}

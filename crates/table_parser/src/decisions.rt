@@ -11,8 +11,8 @@ ghost use Rattle.table_parser.specs.Starts.{shape_classes};
 
 use crate::classes::{TYPE_WORD, WORD};
 use c_forms::{
-    AssignmentOperator, BasicType, BinaryOperator, DeclaratorForm, ExpForm, Form, MetaExpForm, Piece, Sort,
-    SpecForm, StmtForm, StorageClass, StructOrUnion, TypeQualifier, UnaryOperator,
+    AssignmentOperator, BasicType, BinaryOperator, DeclaratorForm, ExpForm, Form, MetaExpForm,
+    Piece, Sort, SpecForm, StmtForm, StorageClass, StructOrUnion, TypeQualifier, UnaryOperator,
 };
 use c_tokens::{Class, Key, Punct, Shape};
 use form_rows::{pieces, star};
@@ -308,4 +308,3 @@ fn stmt_of_punct(punct: Punct) -> Option<StmtForm>
         _ => None,
     }
 }
-

@@ -25,7 +25,6 @@ pub struct Found {
 
 impl Model for Found {
     ghost use Rattle.c_reader.specs.Readers as readers;
-
     ghost use Rattle.table_parser.specs.Codes.{found_code};
 
     ghost Value = { readers.Found };
@@ -89,7 +88,6 @@ pub struct Listed {
 
 impl Model for Listed {
     ghost use Rattle.c_syntax.specs.Reading as reading;
-
     ghost use Rattle.table_parser.specs.Codes.{listed_code};
 
     ghost Value = { reading.Listed };
@@ -147,7 +145,6 @@ pub struct Gathered {
 
 impl Model for Gathered {
     ghost use Rattle.c_syntax.specs.Reading as reading;
-
     ghost use Rattle.table_parser.specs.Codes.{gathered_code};
 
     ghost Value = { reading.Gathered };
@@ -230,7 +227,13 @@ impl Gathered {
 
 /// The node of a form over parts, from a place to another. Its parts are what the form asks for.
 #[tactic(auto, using(crate::proofs::Heights::low_node))]
-pub fn node(alloc: Global, form: Form, start: usize, end: usize, parts: Listed) -> Result<Found, Refusal>
+pub fn node(
+    alloc: Global,
+    form: Form,
+    start: usize,
+    end: usize,
+    parts: Listed,
+) -> Result<Found, Refusal>
     requires start { start < 2 ^ 32 }
     requires end { end < 2 ^ 32 }
     requires low { max (measures.star form) parts.height ≤ 1000 }

@@ -62,9 +62,7 @@ pub enum Before {
     Taken,
 }
 
-impl<
-    F: Fn(Global, &mut Cursor<'_>, usize, u8, Sort, u8) -> Result<Found, Refusal>,
-> Grammar<F> {
+impl<F: Fn(Global, &mut Cursor<'_>, usize, u8, Sort, u8) -> Result<Found, Refusal>> Grammar<F> {
     /// A part of a node.
     #[tactic(auto, using(crate::proofs::Levels::levels, crate::proofs::Heights::deeper_bounded))]
     fn part(&self, cursor: &mut Cursor<'_>, part: Part) -> Result<Found, Refusal>
@@ -76,18 +74,37 @@ impl<
         ensures bounded { IfOk result (λ x. Bounded (deeper_by part.is_deeper) self.now.depth (x.tree ∷ []) x.height) }
     {
         if !part.is_deeper {
-            return (self.part)(self.alloc, cursor, self.depth, self.places, part.due, part.least);
+            return (self.part)(
+                self.alloc,
+                cursor,
+                self.depth,
+                self.places,
+                part.due,
+                part.least,
+            );
         }
         if self.depth == 0 {
             return Err(Refusal::TooDeep(cursor.place()));
         }
-        let found = (self.part)(self.alloc, cursor, self.depth - 1, PLACES, part.due, part.least)?;
+        let found = (self.part)(
+            self.alloc,
+            cursor,
+            self.depth - 1,
+            PLACES,
+            part.due,
+            part.least,
+        )?;
         Ok(found.deeper())
     }
 
     /// One element after those that were read.
     #[tactic(auto, unfolding(c_syntax::specs::Reading::element_after))]
-    fn element_after(&self, cursor: &mut Cursor<'_>, part: Part, all: Gathered) -> Result<Gathered, Refusal>
+    fn element_after(
+        &self,
+        cursor: &mut Cursor<'_>,
+        part: Part,
+        all: Gathered,
+    ) -> Result<Gathered, Refusal>
         requires depth { self.now.depth ≤ 1000 }
         requires places { self.now.places ≤ 9 }
         requires nests { Nests self.now.depth self.now.places (F.pre self.now.part) (F.post self.now.part) }
@@ -103,7 +120,13 @@ impl<
 
     /// The elements after the first.
     #[tactic(auto, using(crate::proofs::Elements::elements))]
-    fn others(&self, cursor: &mut Cursor<'_>, repetition: Repetition, part: Part, first: Gathered) -> Result<Gathered, Refusal>
+    fn others(
+        &self,
+        cursor: &mut Cursor<'_>,
+        repetition: Repetition,
+        part: Part,
+        first: Gathered,
+    ) -> Result<Gathered, Refusal>
         requires depth { self.now.depth ≤ 1000 }
         requires places { self.now.places ≤ 9 }
         requires nests { Nests self.now.depth self.now.places (F.pre self.now.part) (F.post self.now.part) }
@@ -129,7 +152,13 @@ impl<
 
     /// One more element of a list that goes on.
     #[tactic(auto, using(crate::proofs::Separators::separator_token))]
-    fn one_more(&self, cursor: &mut Cursor<'_>, repetition: Repetition, part: Part, all: Gathered) -> Result<Gathered, Refusal>
+    fn one_more(
+        &self,
+        cursor: &mut Cursor<'_>,
+        repetition: Repetition,
+        part: Part,
+        all: Gathered,
+    ) -> Result<Gathered, Refusal>
         requires depth { self.now.depth ≤ 1000 }
         requires places { self.now.places ≤ 9 }
         requires nests { Nests self.now.depth self.now.places (F.pre self.now.part) (F.post self.now.part) }
@@ -149,7 +178,14 @@ impl<
 
     /// The elements after the first of a list that may end in its separator.
     #[tactic(auto, using(crate::proofs::Elements::ends))]
-    fn others_ended(&self, cursor: &mut Cursor<'_>, separator: Class, end: Class, part: Part, first: Gathered) -> Result<Gathered, Refusal>
+    fn others_ended(
+        &self,
+        cursor: &mut Cursor<'_>,
+        separator: Class,
+        end: Class,
+        part: Part,
+        first: Gathered,
+    ) -> Result<Gathered, Refusal>
         requires depth { self.now.depth ≤ 1000 }
         requires places { self.now.places ≤ 9 }
         requires nests { Nests self.now.depth self.now.places (F.pre self.now.part) (F.post self.now.part) }
@@ -179,7 +215,13 @@ impl<
 
     /// One or more elements from a place on.
     #[tactic(auto, unfolding(c_syntax::specs::Reading::many))]
-    fn many(&self, cursor: &mut Cursor<'_>, repetition: Repetition, part: Part, start: usize) -> Result<Gathered, Refusal>
+    fn many(
+        &self,
+        cursor: &mut Cursor<'_>,
+        repetition: Repetition,
+        part: Part,
+        start: usize,
+    ) -> Result<Gathered, Refusal>
         requires depth { self.now.depth ≤ 1000 }
         requires places { self.now.places ≤ 9 }
         requires nests { Nests self.now.depth self.now.places (F.pre self.now.part) (F.post self.now.part) }
@@ -192,13 +234,20 @@ impl<
     {
         let first = self.element_after(cursor, part, Gathered::none_at(start))?;
         match repetition {
-            Repetition::Ended { separator, end } => self.others_ended(cursor, separator, end, part, first),
+            Repetition::Ended { separator, end } => self.others_ended(
+                cursor, separator, end, part, first,
+            ),
             _ => self.others(cursor, repetition, part, first),
         }
     }
 
     /// An element that may be absent.
-    fn at_most_one(&self, cursor: &mut Cursor<'_>, part: Part, start: usize) -> Result<Gathered, Refusal>
+    fn at_most_one(
+        &self,
+        cursor: &mut Cursor<'_>,
+        part: Part,
+        start: usize,
+    ) -> Result<Gathered, Refusal>
         requires depth { self.now.depth ≤ 1000 }
         requires places { self.now.places ≤ 9 }
         requires nests { Nests self.now.depth self.now.places (F.pre self.now.part) (F.post self.now.part) }
@@ -216,7 +265,14 @@ impl<
     }
 
     /// Any number of elements, or at least one.
-    fn any_number(&self, cursor: &mut Cursor<'_>, is_some: bool, repetition: Repetition, part: Part, start: usize) -> Result<Gathered, Refusal>
+    fn any_number(
+        &self,
+        cursor: &mut Cursor<'_>,
+        is_some: bool,
+        repetition: Repetition,
+        part: Part,
+        start: usize,
+    ) -> Result<Gathered, Refusal>
         requires depth { self.now.depth ≤ 1000 }
         requires places { self.now.places ≤ 9 }
         requires nests { Nests self.now.depth self.now.places (F.pre self.now.part) (F.post self.now.part) }
@@ -236,7 +292,14 @@ impl<
         }
     }
 
-    fn gathered_from(&self, cursor: &mut Cursor<'_>, repetition: Repetition, part: Part, before: Before, start: usize) -> Result<Gathered, Refusal>
+    fn gathered_from(
+        &self,
+        cursor: &mut Cursor<'_>,
+        repetition: Repetition,
+        part: Part,
+        before: Before,
+        start: usize,
+    ) -> Result<Gathered, Refusal>
         requires depth { self.now.depth ≤ 1000 }
         requires places { self.now.places ≤ 9 }
         requires nests { Nests self.now.depth self.now.places (F.pre self.now.part) (F.post self.now.part) }
@@ -255,15 +318,33 @@ impl<
             },
             Repetition::All => self.many(cursor, repetition, part, start),
             Repetition::Any => self.any_number(cursor, false, repetition, part, start),
-            Repetition::Many { least, .. } => self.any_number(cursor, least == 1, repetition, part, start),
-            Repetition::Spliced { least, .. } => self.any_number(cursor, least == 1, repetition, part, start),
+            Repetition::Many { least, .. } => self.any_number(
+                cursor,
+                least == 1,
+                repetition,
+                part,
+                start,
+            ),
+            Repetition::Spliced { least, .. } => self.any_number(
+                cursor,
+                least == 1,
+                repetition,
+                part,
+                start,
+            ),
             Repetition::Ended { .. } => self.many(cursor, repetition, part, start),
         }
     }
 
     /// The elements of a repetition, and the place where they begin.
     #[tactic(auto, unfolding(c_syntax::specs::Reading::gathered))]
-    fn gathered(&self, cursor: &mut Cursor<'_>, repetition: Repetition, part: Part, before: Before) -> Result<(usize, Gathered), Refusal>
+    fn gathered(
+        &self,
+        cursor: &mut Cursor<'_>,
+        repetition: Repetition,
+        part: Part,
+        before: Before,
+    ) -> Result<(usize, Gathered), Refusal>
         requires depth { self.now.depth ≤ 1000 }
         requires places { self.now.places ≤ 9 }
         requires nests { Nests self.now.depth self.now.places (F.pre self.now.part) (F.post self.now.part) }
@@ -353,7 +434,9 @@ impl<
                         cursor.happens(event)?;
                         self.filled(cursor, owner, false, before, rest, done)
                     }
-                    Piece::TypeTokens | Piece::KindName | Piece::Rest(_) | Piece::Anything => Err(cursor.refuse()),
+                    Piece::TypeTokens | Piece::KindName | Piece::Rest(_) | Piece::Anything => Err(
+                        cursor.refuse(),
+                    ),
                 }
             }
         }

@@ -1,5 +1,4 @@
-use Rattle.std.proofs.Common.{rules, arith}
-use Rattle.std.proofs.lemmas.Grind.{common_steps}
+use Rattle.std.proofs.Common.{rules}
 use Rattle.table_parser.proofs.Heights.{list_bounded, with_bounded}
 use Rattle.table_parser.proofs.grammar.Grammar.+filled.Goals as goal
 
