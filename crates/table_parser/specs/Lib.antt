@@ -6,3 +6,4 @@ pub mod Nests
 pub mod Sound
 pub mod Turns
 pub mod Filled
+pub mod Rights

@@ -5,6 +5,10 @@ ghost use Rattle.c_forms.specs.Forests.{forest};
 ghost use Rattle.c_forms.specs.Measures as measures;
 ghost use Rattle.c_forms.specs.Measures.{star};
 ghost use Rattle.c_forms.specs.Rules.{is_right};
+ghost use Rattle.c_forms.specs.declared.forms.Form.TheVariants as form;
+ghost use Rattle.c_forms.specs.declared.forms.InitForm.TheVariants as init;
+ghost use Rattle.c_forms.specs.declared.forms.StmtForm.TheVariants as stmt;
+ghost use Rattle.c_forms.specs.declared.pieces.Sort.TheVariants as sort;
 ghost use Rattle.c_forms.specs.Sets.{starts};
 ghost use Rattle.c_reader.specs.Readers.{Input, Reads, here};
 ghost use Rattle.c_reader.specs.declared.refusal.Refusal.TheVariants as refusal;
@@ -13,15 +17,16 @@ ghost use Rattle.c_syntax.specs.Reading as reading;
 ghost use Rattle.table_parser.specs.Filled.{are_sound, before_after, before_of, filled, skips};
 ghost use Rattle.table_parser.specs.Founds.{Bounded};
 ghost use Rattle.table_parser.specs.Nests.{Nests, read, part_of, deeper_by};
+ghost use Rattle.table_parser.specs.Rights.{RightWhole};
 ghost use Rattle.table_parser.specs.Sound.{is_sound, is_token};
 
 use crate::cursor::Cursor;
 use crate::decisions::is_starred;
 use crate::found::{Found, Gathered, Listed, node};
 use crate::starts::{goes_on_with, may_begin, may_begin_element};
-use c_forms::{DeclaratorForm, Form, Piece, Repetition, Sort};
+use c_forms::{DeclaratorForm, Form, InitForm, Piece, Repetition, Sort, StmtForm};
 use c_reader::Refusal;
-use c_tokens::Class;
+use c_tokens::{Class, Punct};
 use form_rows::pieces;
 use std::alloc::Global;
 
@@ -489,7 +494,7 @@ impl<F: Fn(Global, &mut Cursor<'_>, usize, u8, Sort, u8) -> Result<Found, Refusa
         requires places { self.now.places ≤ 9 }
         requires nests { Nests self.now.depth self.now.places (F.pre self.now.part) (F.post self.now.part) }
         requires sound { are_sound form (measures.pieces form) ≡ true }
-        requires right { (g : reading.Listed) (j : Input) → read self.now.depth (reading.pieces_in (part_of (reading.is_starred form) self.now.places) own form reading.Usual (measures.pieces form)) cursor.old.input ≡ Ok (g, j) → is_right form (forest (reading.joined reading.nothing g).trees) ≡ true }
+        requires right { RightWhole self.now.depth self.now.places own form cursor.old.input }
         ensures reads { Reads (read self.now.depth (grammar.whole (grammar.in_place self.now.places) own form) cursor.old.input) result cursor.new.input }
         ensures kept { cursor.new.before ≡ cursor.old.before }
         ensures bounded { IfOk result (λ x. Bounded 0 self.now.depth (x.tree ∷ []) x.height) }
@@ -503,6 +508,60 @@ impl<F: Fn(Global, &mut Cursor<'_>, usize, u8, Sort, u8) -> Result<Found, Refusa
         };
         let start = cursor.place();
         self.completed(cursor, owner, start, Listed::nothing(), pieces(form))
+    }
+
+    /// What stands after an opening parenthesis, up to the closing one.
+    fn parenthesized(&self, cursor: &mut Cursor<'_>, due: Sort) -> Result<Found, Refusal>
+        requires depth { self.now.depth ≤ 1000 }
+        requires places { self.now.places ≤ 9 }
+        requires nests { Nests self.now.depth self.now.places (F.pre self.now.part) (F.post self.now.part) }
+        ensures reads { Reads (read self.now.depth (grammar.parenthesized due) cursor.old.input) result cursor.new.input }
+        ensures kept { cursor.new.before ≡ cursor.old.before }
+        ensures bounded { IfOk result (λ x. Bounded 1 self.now.depth (x.tree ∷ []) x.height) }
+    {
+        let part = Part {
+            is_deeper: true,
+            due,
+            least: 1,
+        };
+        let found = self.part(cursor, part)?;
+        cursor.take(Class::Punct(Punct::RightParen))?;
+        Ok(found)
+    }
+
+    /// An initializer (ISO/IEC 9899:1990, 6.5.7).
+    fn initializer(&self, cursor: &mut Cursor<'_>) -> Result<Found, Refusal>
+        requires depth { self.now.depth ≤ 1000 }
+        requires places { self.now.places ≤ 9 }
+        requires nests { Nests self.now.depth self.now.places (F.pre self.now.part) (F.post self.now.part) }
+        requires one { RightWhole self.now.depth self.now.places sort.Init (form.Init init.One) cursor.old.input }
+        requires braces { RightWhole self.now.depth self.now.places sort.Init (form.Init init.Braces) cursor.old.input }
+        ensures reads { Reads (read self.now.depth (grammar.initializer (grammar.in_place self.now.places)) cursor.old.input) result cursor.new.input }
+        ensures kept { cursor.new.before ≡ cursor.old.before }
+        ensures bounded { IfOk result (λ x. Bounded 0 self.now.depth (x.tree ∷ []) x.height) }
+    {
+        if cursor.shows(Class::Punct(Punct::LeftBrace)) {
+            self.whole(cursor, Sort::Init, Form::Init(InitForm::Braces))
+        } else {
+            self.whole(cursor, Sort::Init, Form::Init(InitForm::One))
+        }
+    }
+
+    /// A compound statement (6.6.2).
+    fn block(&self, cursor: &mut Cursor<'_>) -> Result<Found, Refusal>
+        requires depth { self.now.depth ≤ 1000 }
+        requires places { self.now.places ≤ 9 }
+        requires nests { Nests self.now.depth self.now.places (F.pre self.now.part) (F.post self.now.part) }
+        requires right { RightWhole self.now.depth self.now.places sort.Stmt (form.Stmt stmt.Block) cursor.old.input }
+        ensures reads { Reads (read self.now.depth (grammar.block (grammar.in_place self.now.places)) cursor.old.input) result cursor.new.input }
+        ensures kept { cursor.new.before ≡ cursor.old.before }
+        ensures bounded { IfOk result (λ x. Bounded 0 self.now.depth (x.tree ∷ []) x.height) }
+    {
+        if cursor.shows(Class::Punct(Punct::LeftBrace)) {
+            self.whole(cursor, Sort::Stmt, Form::Stmt(StmtForm::Block))
+        } else {
+            Err(cursor.refuse())
+        }
     }
 }
 
