@@ -716,16 +716,16 @@ module _ (inner : Parts) (F : Firmly inner) (T : Tamely inner) where
     λ x. (λ k. tame_list (Spliced (Some (sign punct.Comma)) 0) s.InitDeclarator (with_last (none_at j) x k.place) refl refl, λ g. tame_declaration i specs (list_from j g)),
   )
 
-  tame_outer : (i : ℕ) (specs : Found) → Tame body (outer inner i specs)
-  tame_outer i specs = λ j. (T s.Declarator 1, λ d k y. tame_choose (k.state.kept.is_function_due || (is_function k.state && not (goes_on_declaring y))) (function_from inner i specs d) (declaration_from inner i specs j.place d) (tame_function i specs d) (tame_declaration_from i specs j.place d))
+  tame_outer : (due : Bool) (i : ℕ) (specs : Found) → Tame body (outer due inner i specs)
+  tame_outer due i specs = λ j. (T s.Declarator 1, λ d k y. tame_choose (due || (is_function k.state && not (goes_on_declaring y))) (function_from inner i specs d) (declaration_from inner i specs j.place d) (tame_function i specs d) (tame_declaration_from i specs j.place d))
 
   tame_external : Tame body (external inner)
   unfolding external
   tame_external = λ i x. tame_choose (begins s.Spec x) (specified inner i.place) (unspecified inner i.place) (
     (tame_gathered All s.Spec (inner s.Spec 0) Usual refl (F s.Spec 0) (T s.Spec 0), λ g. tt),
-    λ specs j y. tame_choose (is_sign punct.Semicolon y) (declaration_of inner i.place specs (list_from j.place (none_at j.place))) (outer inner i.place specs) (tame_declaration i.place specs (list_from j.place (none_at j.place))) (tame_outer i.place specs),
+    λ specs j y. tame_choose (is_sign punct.Semicolon y) (declaration_of inner i.place specs (list_from j.place (none_at j.place))) (outer false inner i.place specs) (tame_declaration i.place specs (list_from j.place (none_at j.place))) (tame_outer false i.place specs),
   )
-      (tame_outer i.place (list_from i.place (none_at i.place)))
+      (tame_outer true i.place (list_from i.place (none_at i.place)))
 
   tame_at : Tamely (at_sort inner)
   tame_at s.Exp least = tame_expression inner F T least
