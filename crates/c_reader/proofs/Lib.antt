@@ -1,0 +1,9 @@
+pub mod Loops
+pub mod Bounds
+pub mod Repeats
+pub mod Local
+pub mod Deeper
+pub mod Advance
+pub mod Sets
+pub mod Seen
+pub mod Fresh
