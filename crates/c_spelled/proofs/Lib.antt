@@ -1,0 +1,2 @@
+mod Off
+mod Opens
