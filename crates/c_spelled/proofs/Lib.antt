@@ -1,2 +1,3 @@
 mod Off
 mod Opens
+mod Rows

@@ -9,9 +9,13 @@ use Rattle.c_forms.specs.declared.pieces.Repetition.TheVariants.{Optional, Greed
 use Rattle.c_forms.specs.declared.pieces.Piece.{Piece}
 use Rattle.c_forms.specs.declared.pieces.Piece.TheVariants.{Token, Maybe, Own, TypeTokens, KindName, One, Group, Rest, Anything, Then}
 use Rattle.c_forms.specs.declared.forms.Form.{Form}
-use Rattle.c_forms.specs.Sets.{Classes, has, apart, given, starts, element_starts, goes_on, goes_on_with, may_be_empty, is_optional, held_class, type_word}
+use Rattle.c_forms.specs.declared.forms.Form.TheVariants as form
+use Rattle.c_forms.specs.declared.forms.ParamsForm.TheVariants as params
+use Rattle.c_forms.specs.Forests as forests
+use Rattle.c_forms.specs.Measures.{pieces}
+use Rattle.c_forms.specs.Sets.{Classes, has, within, apart, given, starts, element_starts, goes_on, goes_on_with, may_be_empty, is_optional, held_class, type_word}
 use Rattle.c_reader.specs.States.{word_class}
-use Rattle.c_syntax.specs.Reading.{Before, Usual, Missing, is_missing, before_by, inside, separator_of}
+use Rattle.c_syntax.specs.Reading.{Before, Usual, Missing, is_missing, before_by, inside, is_absent, spanned}
 
 abbrev pub value_word : ℕ
 value_word = word_class false
@@ -108,3 +112,105 @@ reads own (Then e ∷ ps) = reads own ps
 reads own (One due least ∷ ps) = is_read (inside own due) && reads own ps
 reads own (Group r due least ∷ ps) = (is_read due && not (may_be_empty due)) && reads own ps
 reads own _ = false
+
+-- ---- what follows
+
+abbrev pub is_due : List Piece → Bool
+is_due (Group Due due least ∷ ps) = true
+is_due _ = false
+
+-- what goes on with a repetition after an element, where the relation does not say that none does
+abbrev pub goes_after : Repetition → Sort → Classes
+goes_after (Many separator least) due = goes_on_with (Many separator least) (element_starts (Many separator least) due)
+goes_after (Spliced separator least) due = goes_on_with (Spliced separator least) (element_starts (Spliced separator least) due)
+goes_after _ due = []
+
+abbrev pub group_goes_on : Repetition → Sort → ℕ → Classes
+group_goes_on r due least = goes_on due least ++ goes_after r due
+
+-- what would begin a repetition that is absent
+abbrev pub absent_ends : Repetition → Sort → Classes
+absent_ends Optional due = starts due
+absent_ends Due due = starts due
+absent_ends (Many separator least) due = given (nat_eq least 0) (element_starts (Many separator least) due)
+absent_ends (Spliced separator least) due = given (nat_eq least 0) (element_starts (Spliced separator least) due)
+absent_ends _ due = []
+
+-- what may go on with pieces
+abbrev pub follows : Sort → List Piece → Classes
+follows own [] = []
+follows own (Maybe c ∷ ps) = given (blank own Usual ps) (class_number c ∷ []) ++ follows own ps
+follows own (One due least ∷ ps) = given (blank own Usual ps) (goes_on (inside own due) least) ++ follows own ps
+follows own (Group r due least ∷ ps) = given (blank own Usual ps) (group_goes_on r due least ++ given (not (is_due ps)) (absent_ends r due)) ++ follows own ps
+follows own (p ∷ ps) = follows own ps
+
+abbrev between_fits : Option Class → Sort → ℕ → Bool
+between_fits (Some c) due least = parted (class_number c ∷ []) (goes_on due least)
+between_fits None due least = parted (starts due) (goes_on due least)
+
+-- what stands between two elements does not go on with the first
+abbrev pub elements_fit : Repetition → Sort → ℕ → Bool
+elements_fit (Many separator few) due least = between_fits separator due least
+elements_fit (Spliced separator few) due least = between_fits separator due least
+elements_fit (Ended separator end_token) due least = between_fits (Some separator) due least && parted (class_number end_token ∷ []) (starts due)
+elements_fit All due least = between_fits None due least
+elements_fit Any due least = between_fits None due least
+elements_fit _ due least = true
+
+abbrev same_class : Class → Class → Bool
+same_class c d = nat_eq (class_number c) (class_number d)
+
+-- after a repetition that may end in its separator stand the separator, which may be absent, and the end
+abbrev pub is_ended_by : Class → Class → List Piece → Bool
+is_ended_by separator end_token (Maybe c ∷ (Token d ∷ ps)) = same_class c separator && same_class d end_token
+is_ended_by separator end_token _ = false
+
+abbrev pub group_fits : Sort → Form → Repetition → Sort → ℕ → List Piece → Bool
+group_fits own f (Ended separator end_token) due least ps = (elements_fit (Ended separator end_token) due least && parted (class_number separator ∷ (class_number end_token ∷ [])) (goes_on due least))
+    && (is_ended_by separator end_token ps && not (nat_eq (class_number end_token) (class_number separator)))
+group_fits own f r due least ps = elements_fit r due least && parted (opens own f ps) (group_goes_on r due least ++ absent_ends r due)
+
+-- what follows a part does not go on with it
+abbrev pub fitting : Sort → Form → List Piece → Bool
+fitting own f [] = true
+fitting own f (Token c ∷ ps) = fitting own f ps
+fitting own f (Maybe c ∷ ps) = parted (opens own f ps) (class_number c ∷ []) && fitting own f ps
+fitting own f (Own ∷ ps) = fitting own f ps
+fitting own f (Then e ∷ ps) = fitting own f ps
+fitting own f (One due least ∷ ps) = parted (opens own f ps) (goes_on (inside own due) least) && fitting own f ps
+fitting own f (Group r due least ∷ ps) = group_fits own f r due least ps && fitting own f ps
+fitting own f (_ ∷ ps) = false
+
+-- ---- rows
+
+abbrev pub is_leveled : Sort → Bool
+is_leveled s.Exp = true
+is_leveled s.Declarator = true
+is_leveled s.AbstractDeclarator = true
+is_leveled s.ParamDeclarator = true
+is_leveled s.MemberName = true
+is_leveled _ = false
+
+abbrev is_absent_form : Form → Bool
+is_absent_form f = is_absent (forests.node f (spanned 0 0) [])
+
+abbrev blank_fits : Sort → Form → Bool → Bool
+blank_fits due f true = may_be_empty due && (is_calm due (pieces f) && (if is_nameless due then is_absent_form f else not (is_absent_form f)))
+blank_fits due f false = true
+
+-- what begins a form begins its sort
+abbrev pub begins_so : Sort → Form → Bool
+begins_so due f = reads due (pieces f) && (is_calm due (pieces f) && (within (opens due f (pieces f)) (starts due) && blank_fits due f (blank due Usual (pieces f))))
+
+abbrev is_typed_list : Form → Bool
+is_typed_list (form.Params params.Ids) = false
+is_typed_list (form.Params f) = true
+is_typed_list _ = false
+
+-- and what goes on with it goes on with its sort
+abbrev pub fits_so : Sort → Form → Bool
+fits_so due f = fitting due f (pieces f) && within (follows due (pieces f)) (goes_on due 0)
+
+-- the row of a form that is read as a sort
+abbrev pub row_fits : Sort → Form → Bool
+row_fits due f = begins_so due f && (is_leveled due || (is_typed_list f || fits_so due f))
