@@ -1,3 +1,4 @@
 mod Off
 mod Opens
 mod Rows
+mod Begins

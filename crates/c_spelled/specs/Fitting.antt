@@ -194,7 +194,7 @@ is_leveled _ = false
 abbrev is_absent_form : Form → Bool
 is_absent_form f = is_absent (forests.node f (spanned 0 0) [])
 
-abbrev blank_fits : Sort → Form → Bool → Bool
+abbrev pub blank_fits : Sort → Form → Bool → Bool
 blank_fits due f true = may_be_empty due && (is_calm due (pieces f) && (if is_nameless due then is_absent_form f else not (is_absent_form f)))
 blank_fits due f false = true
 
