@@ -2,3 +2,5 @@ mod Off
 mod Opens
 mod Rows
 mod Begins
+mod Turns
+mod Groups

@@ -9,7 +9,7 @@ use Rattle.c_reader.specs.States.{State, class}
 use Rattle.c_reader.specs.Tokens.{Spot, raw_at, class_at}
 use Rattle.c_reader.proofs.Sets.{both, not_true, contrary, apart_has, has_neither, has_none, single}
 use Rattle.c_reader.proofs.Seen.{between_states, alike, written, word}
-use Rattle.c_spelled.specs.Fitting.{parted, has_words, value_word}
+use Rattle.c_spelled.specs.Fitting.{parted, has_words, value_word, source_end}
 
 -- in no state is the token at a place of the set
 abbrev pub Off : Classes → List Shape → ℕ → Type 0
@@ -63,7 +63,7 @@ off_given true a w place e o = o
 off_given false a w place e o = absurd (cc e)
 
 -- a token that is seen is one of the list
-pub in_list : (a : Classes) (w : List Shape) (i : Spot) → has a (class_at w i) ≡ true → has a 118 ≡ false → i.place < length w
+pub in_list : (a : Classes) (w : List Shape) (i : Spot) → has a (class_at w i) ≡ true → has a source_end ≡ false → i.place < length w
 in_list a w i h e = elim (cases_lt i.place (length w)) [
   | inl less ↦ less
   | inr past ↦ absurd (contrary (has a (class_at w i)) h (ap (λ x. has a (class i.state x)) (get_or_past w i.place shape.End past) ∙ e))

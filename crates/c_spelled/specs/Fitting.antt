@@ -1,6 +1,7 @@
 -- What the pieces of a row must meet, so that what spells them is read. It is computed.
 use Rattle.std.specs.Prelude.{ℕ, Bool, true, false, not, ◌&&◌, ◌||◌, nat_eq, List, [], ◌∷◌, ◌++◌, Option, Some, None, if◌then◌else◌}
 use Rattle.c_tokens.specs.declared.class.Class.{Class}
+use Rattle.c_tokens.specs.declared.class.Class.TheVariants as class
 use Rattle.c_tokens.specs.ClassNumbers.{class_number}
 use Rattle.c_forms.specs.declared.pieces.Sort.{Sort}
 use Rattle.c_forms.specs.declared.pieces.Sort.TheVariants as s
@@ -144,9 +145,16 @@ follows own (One due least ∷ ps) = given (blank own Usual ps) (goes_on (inside
 follows own (Group r due least ∷ ps) = given (blank own Usual ps) (group_goes_on r due least ++ given (not (is_due ps)) (absent_ends r due)) ++ follows own ps
 follows own (p ∷ ps) = follows own ps
 
-abbrev between_fits : Option Class → Sort → ℕ → Bool
-between_fits (Some c) due least = parted (class_number c ∷ []) (goes_on due least)
-between_fits None due least = parted (starts due) (goes_on due least)
+-- what may stand after an element, where another follows
+abbrev pub between_set : Option Class → Sort → Classes
+between_set (Some c) due = class_number c ∷ []
+between_set None due = starts due
+
+abbrev pub source_end : ℕ
+source_end = class_number class.End
+
+abbrev pub between_fits : Option Class → Sort → ℕ → Bool
+between_fits c due least = parted (between_set c due) (goes_on due least) && not (has (between_set c due) source_end)
 
 -- what stands between two elements does not go on with the first
 abbrev pub elements_fit : Repetition → Sort → ℕ → Bool
