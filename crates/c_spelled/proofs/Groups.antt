@@ -35,6 +35,10 @@ pub record GotAll (o : Outcome Gathered) (top : ℕ) (ts : List Plain) (is_ended
   pub low : height ≤ top
   pub reads : o ≡ Ok (listed ts height last is_ended, from w j)
 
+abbrev pub is_unended : Repetition → Bool
+is_unended (Ended s e) = false
+is_unended r = true
+
 module _ (body : Body) (d top : ℕ) (w : List Shape) (due : Sort) (least : ℕ) (one : Plain → Spot → Spot → Type 0) (element : Reader Found)
     (B : (t : Plain) (i j : Spot) → one t i j → (has (starts due) (class_at w i) ≡ true) × (i.place < j.place))
     (E : (t : Plain) (i j : Spot) → one t i j → Off (goes_on due least) w j.place → Got (read body d element (from w i)) top t w j) where
@@ -226,10 +230,6 @@ module _ (body : Body) (d top : ℕ) (w : List Shape) (due : Sort) (least : ℕ)
   due_read false ts i j (inl A) c n = absent_read ts i j A.1 _ (at_most i.place i false (ap (λ k. has (starts due) (class_at w k)) A.1.1 ∙ n A.1.0 j.state))
   due_read true ts i j (inr O) c n = once_read ts i j O c _ refl
   due_read false ts i j (inr O) c n = once_read ts i j O c _ (at_most i.place i true (B O.0 i j O.1.1).0)
-
-  abbrev is_unended : Repetition → Bool
-  is_unended (Ended s e) = false
-  is_unended r = true
 
   pub group_read : (r : Repetition) (before : Before) (ts : List Plain) (i j : Spot) → is_unended r ≡ true → elements_fit r due least ≡ true → IsGroup r due one before w ts i j → Off (group_goes_on r due least) w j.place → (ts ≡ [] → Off (absent_ends r due) w j.place)
       → GotAll (read body d (gathered_by r due element before i.place) (from w i)) top ts false j.place w j

@@ -4,3 +4,4 @@ mod Rows
 mod Begins
 mod Turns
 mod Groups
+mod Pieces

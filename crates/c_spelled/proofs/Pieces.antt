@@ -1,0 +1,146 @@
+-- What spells the pieces of a row is read.
+use Rattle.std.proofs.Common.{◌≡◌, ◌⊎◌, inl, inr, refl, subst, ap, sym, ◌∙◌, ℕ, zero, suc, ◌+◌, ◌<◌, ◌≤◌, max, not, Bool, true, false, ◌||◌, ◌&&◌, List, length, [], ◌∷◌, ◌++◌, nat_eq, Option, Some, None, Ok, Err, arith}
+use Rattle.c_tokens.specs.declared.token.Shape.{Shape}
+use Rattle.c_tokens.specs.declared.class.Class.{Class}
+use Rattle.c_tokens.specs.ClassNumbers.{class_number}
+use Rattle.c_forms.specs.declared.pieces.Sort.{Sort}
+use Rattle.c_forms.specs.declared.pieces.Repetition.{Repetition}
+use Rattle.c_forms.specs.declared.pieces.Repetition.TheVariants.{Optional, Greedy, Due, All, Any, Many, Spliced, Ended}
+use Rattle.c_forms.specs.declared.pieces.Piece.{Piece}
+use Rattle.c_forms.specs.declared.pieces.Piece.TheVariants.{Token, Maybe, Own, TypeTokens, KindName, One, Group, Rest, Anything, Then}
+use Rattle.c_forms.specs.declared.forms.Form.{Form}
+use Rattle.c_forms.specs.Forests.{Plain, forest}
+use Rattle.c_forms.specs.Forests as forests
+use Rattle.c_forms.specs.Rules.{is_none}
+use Rattle.c_forms.specs.Sets.{Classes, has, given, starts, may_be_empty, goes_on, held_class}
+use Rattle.c_reader.specs.States.{Seen, happens}
+use Rattle.c_reader.specs.Tokens.{Spot, spot, step, turned, seen_at, class_at}
+use Rattle.c_reader.specs.Readers.{Input, Reader, Found, Outcome, Body, Give, Refuse, Look, Next, Pick, Bind, Ask, Change, read, and_then, pick, choose, only, token, ◌>>=◌, ◌>>◌}
+use Rattle.c_reader.proofs.Local.{from}
+use Rattle.c_reader.proofs.Sets.{both, not_true, itself, single, same_class}
+use Rattle.c_syntax.specs.Allowed.{may_happen}
+use Rattle.c_syntax.specs.Reading.{Listed, Parts, Gathered, nothing, with_first, list_from, the_list, spanned, gathered, gathered_by, Before, Usual, before_by, is_absent, inside, is_class, pieces_in}
+use Rattle.c_syntax.specs.Spells.{Spelling, Is, IsGroup, IsHeld, Parted, IsList, Matches}
+use Rattle.c_spelled.specs.Fitting.{parted, is_read, opens, blank, reads, is_due, goes_after, group_goes_on, absent_ends, follows, elements_fit, between_fits, group_fits, is_ended_by, fitting}
+use Rattle.c_spelled.proofs.Off.{Off, On, on_here, off, off_left, off_right, off_both, off_given}
+use Rattle.c_spelled.proofs.Opens.{Begun, Starts, Opened, Blank, starts_so}
+use Rattle.c_spelled.proofs.Begins.{AllBegin}
+use Rattle.c_spelled.proofs.Groups.{Got, GotAll, listed, group_read, ended_read, is_unended}
+
+-- a spelling is read by parts, to trees of no more than a height
+abbrev pub AllRead : Body → ℕ → ℕ → List Shape → Spelling → Parts → Type 0
+AllRead body d top w P part = (due : Sort) (least : ℕ) (t : Plain) (i j : Spot) → is_read due ≡ true → P due least t i j → Off (goes_on due least) w j.place → Got (read body d (part due least) (from w i)) top t w j
+
+abbrev pub side_by_side : List Plain → ℕ → Listed
+side_by_side ts height = record { trees = ts; height = height }
+
+-- it answers these trees, of no more than this height
+pub record GotParts (o : Outcome Listed) (top : ℕ) (ts : List Plain) (w : List Shape) (j : Spot) : Type 0 where
+  pub height : ℕ
+  pub low : height ≤ top
+  pub reads : o ≡ Ok (side_by_side ts height, from w j)
+
+pub is_it : (w : List Shape) (c : Class) (i : Spot) → Is w c i → is_class c (seen_at w i) ≡ true
+is_it w c i x = ap (λ n. nat_eq n (class_number c)) x ∙ itself (class_number c)
+
+by_false : (b : Bool) → (b ≡ true → ⊥) → b ≡ false
+by_false true f = absurd (f refl)
+by_false false f = refl
+
+pub is_not : (w : List Shape) (c : Class) (i : Spot) → Off (class_number c ∷ []) w i.place → is_class c (seen_at w i) ≡ false
+is_not w c i o = by_false (is_class c (seen_at w i)) (λ y.
+    let t : has (class_number c ∷ []) (class_at w i) ≡ true = single (class_number c) (class_at w i) (same_class (class_at w i) (class_number c) y) in
+    let f : true ≡ false = sym t ∙ o i.state in cc f)
+
+off_head : (b : Bool) (a : Classes) (c : Classes) (w : List Shape) (place : ℕ) → b ≡ true → Off (given b a ++ c) w place → Off a w place
+off_head b a c w place e o = off_given b a w place e (off_left (given b a) c w place o)
+
+module _ (body : Body) (d top : ℕ) (w : List Shape) (P : Spelling) (part : Parts) (B : AllBegin w P) (E : AllRead body d top w P part) where
+  -- what follows does not go on, where it has a token or not
+  pub ends_off : (own : Sort) (f : Form) (before : Before) (ps : List Piece) (a : Classes) (k j : Spot) → parted (opens own f ps) a ≡ true → Starts w own f before ps k j → (blank own before ps ≡ true → Off a w j.place) → Off a w k.place
+  ends_off own f before ps a k j p (inl o) b = off (opens own f ps) a w k.place p (record { state = o.state; isin = o.isin })
+  ends_off own f before ps a k j p (inr e) b = subst (λ n. Off a w n) (sym e.same) (b e.may)
+
+  -- nothing before makes pieces blank that are not so otherwise
+  usually : (own : Sort) (before : Before) (ps : List Piece) → blank own before ps ≡ true → blank own Usual ps ≡ true
+  usually own before [] h = refl
+  usually own before (Maybe c ∷ ps) h = h
+  usually own before (Then e ∷ ps) h = usually own before ps h
+  usually own before (One due least ∷ ps) h = h
+  usually own before (Group Due due least ∷ ps) h = (both _ _ h).1
+  usually own before (Group Optional due least ∷ ps) h = h
+  usually own before (Group Greedy due least ∷ ps) h = h
+  usually own before (Group All due least ∷ ps) h = h
+  usually own before (Group Any due least ∷ ps) h = h
+  usually own before (Group (Many s n) due least ∷ ps) h = h
+  usually own before (Group (Spliced s n) due least ∷ ps) h = h
+  usually own before (Group (Ended s e) due least ∷ ps) h = h
+  usually own before (Token c ∷ ps) h = absurd (cc h)
+  usually own before (Own ∷ ps) h = absurd (cc h)
+  usually own before (TypeTokens ∷ ps) h = absurd (cc h)
+  usually own before (KindName ∷ ps) h = absurd (cc h)
+  usually own before (Rest due ∷ ps) h = absurd (cc h)
+  usually own before (Anything ∷ ps) h = absurd (cc h)
+
+  -- where a repetition is absent, what is due after it is there
+  not_due : (own : Sort) (ps : List Piece) → blank own (before_by true) ps ≡ true → not (is_due ps) ≡ true
+  not_due own (Group Due due least ∷ ps) h = absurd (cc h)
+  not_due own [] h = refl
+  not_due own _ h = refl
+
+  element_begins : (due : Sort) (least : ℕ) → (is_read due && not (may_be_empty due)) ≡ true → (t : Plain) (i j : Spot) → P due least t i j → (has (starts due) (class_at w i) ≡ true) × (i.place < j.place)
+  element_begins due least r t i j p = let k = both (is_read due) _ r in elim (B due least t i j k.0 p) [
+    | inl b ↦ b
+    | inr e ↦ absurd (let f : true ≡ false = sym e.0 ∙ not_true (may_be_empty due) k.1 in cc f)
+  ]
+
+  element_read : (due : Sort) (least : ℕ) → (is_read due && not (may_be_empty due)) ≡ true → (t : Plain) (i j : Spot) → P due least t i j → Off (goes_on due least) w j.place → Got (read body d (part due least) (from w i)) top t w j
+  element_read due least r t i j p o = E due least t i j (both (is_read due) _ r).0 p o
+
+  abbrev after_group : Sort → Form → List Piece → ℕ × Gathered → Reader Listed
+  after_group own f ps g = pieces_in part own f (before_by (is_none (forest g.1.trees))) ps >>= λ h. Give (with_first (list_from g.0 g.1) h)
+
+  -- a list, and what follows it
+  in_order : (own : Sort) (f : Form) (ps : List Piece) (us others ts : List Plain) (t : Plain) (i k j : Spot) (o : Outcome (ℕ × Gathered)) (q : Outcome Listed) → t ≡ forests.node the_list (spanned i.place k.place) us → ts ≡ t ∷ others
+      → (height : ℕ) → height ≤ top → o ≡ Ok ((i.place, listed us height k.place false), from w k) → q ≡ and_then o (λ g j. read body d (after_group own f ps g) j)
+      → GotParts (read body d (pieces_in part own f (before_by (is_none (forest us))) ps) (from w k)) top others w j → GotParts q top ts w j
+  in_order own f ps us others ts t i k j o q v v' height low e e' H = record {
+    height = max height H.height;
+    low = omega (arith, low, H.low);
+    reads = e' ∙ ap (λ o. and_then o (λ g j. read body d (after_group own f ps g) j)) e
+        ∙ ap (λ o. and_then o (λ h j. Ok (with_first (list_from i.place (listed us height k.place false)) h, j))) H.reads
+        ∙ ap (λ us. Ok (side_by_side us (max height H.height), from w j)) (ap (λ t. t ∷ others) (sym v) ∙ sym v');
+  }
+
+  in_gathered : (r : Repetition) (due : Sort) (least : ℕ) (before : Before) (i : Spot) (g : Gathered) (k : Spot) → read body d (gathered_by r due (part due least) before i.place) (from w i) ≡ Ok (g, from w k)
+      → read body d (gathered r due (part due least) before) (from w i) ≡ Ok ((i.place, g), from w k)
+  unfolding gathered
+  in_gathered r due least before i g k e = ap (λ o. and_then o (λ g j. Ok ((i.place, g), j))) e
+
+  grouped : (own : Sort) (f : Form) (r : Repetition) (due : Sort) (least : ℕ) (before : Before) (ps : List Piece) (ts : List Plain) (i j : Spot)
+      → is_unended r ≡ true → (is_read due && not (may_be_empty due)) ≡ true → reads own ps ≡ true → (elements_fit r due least && parted (opens own f ps) (group_goes_on r due least ++ absent_ends r due)) ≡ true
+      → Off (given (blank own Usual ps) (group_goes_on r due least ++ given (not (is_due ps)) (absent_ends r due)) ++ follows own ps) w j.place
+      → (M : Parted (IsList (IsGroup r due (P due least) before w)) (λ t. Matches P w own f (before_by (is_none t.parts)) ps) ts i j)
+      → ((before : Before) (ts : List Plain) (k : Spot) → Matches P w own f before ps ts k j → GotParts (read body d (pieces_in part own f before ps) (from w k)) top ts w j)
+      → (q : Outcome Listed) → q ≡ and_then (read body d (gathered r due (part due least) before) (from w i)) (λ g j. read body d (after_group own f ps g) j) → GotParts q top ts w j
+  grouped own f r due least before ps ts i j U r' R F o M rest q e =
+      let fit = both (elements_fit r due least) _ F in
+      let us : List Plain = M.is_first.0 in
+      let k : Spot = M.place in
+      let here : Matches P w own f (before_by (is_none (forest us))) ps M.others k j = subst (λ (t : Plain). Matches P w own f (before_by (is_none t.parts)) ps M.others k j) M.is_first.1.0 M.are_others in
+      let begun : Starts w own f (before_by (is_none (forest us))) ps k j = starts_so w P B own f (before_by (is_none (forest us))) ps M.others k j R here in
+      let all = group_goes_on r due least in
+      let out : Off all w k.place = elim begun [
+        | inl s ↦ off_left all (absent_ends r due) w k.place (off (opens own f ps) (all ++ absent_ends r due) w k.place fit.1 (record { state = s.state; isin = s.isin }))
+        | inr b ↦ subst (λ n. Off all w n) (sym b.same) (off_left all _ w j.place (off_head (blank own Usual ps) (all ++ given (not (is_due ps)) (absent_ends r due)) (follows own ps) w j.place (usually own (before_by (is_none (forest us))) ps b.may) o))
+      ] in
+      let gone : us ≡ [] → Off (absent_ends r due) w k.place = λ z. elim begun [
+        | inl s ↦ off_right all (absent_ends r due) w k.place (off (opens own f ps) (all ++ absent_ends r due) w k.place fit.1 (record { state = s.state; isin = s.isin }))
+        | inr b ↦ subst (λ n. Off (absent_ends r due) w n) (sym b.same) (off_given (not (is_due ps)) (absent_ends r due) w j.place
+            (not_due own ps (ap (λ us. blank own (before_by (is_none (forest us))) ps) (sym z) ∙ b.may))
+            (off_right all _ w j.place (off_head (blank own Usual ps) (all ++ given (not (is_due ps)) (absent_ends r due)) (follows own ps) w j.place (usually own (before_by (is_none (forest us))) ps b.may) o)))
+      ] in
+      let G : GotAll (read body d (gathered_by r due (part due least) before i.place) (from w i)) top us false k.place w k =
+          group_read body d top w due least (P due least) (part due least) (element_begins due least r') (element_read due least r') r before us i k U fit.0 M.is_first.1.1 out gone in
+      in_order own f ps us M.others ts M.first i k j _ q M.is_first.1.0 M.value G.height G.low (in_gathered r due least before i (listed us G.height k.place false) k G.reads) e
+          (rest (before_by (is_none (forest us))) M.others k here)
