@@ -16,10 +16,11 @@ use Rattle.c_forms.specs.Sets.{Classes, has, given, starts, may_be_empty, goes_o
 use Rattle.c_reader.specs.States.{Seen, happens}
 use Rattle.c_reader.specs.Tokens.{Spot, spot, step, turned, seen_at, class_at}
 use Rattle.c_reader.specs.Readers.{Input, Reader, Found, Outcome, Body, Give, Refuse, Look, Next, Pick, Bind, Ask, Change, read, and_then, pick, choose, only, token, ◌>>=◌, ◌>>◌}
+use Rattle.std.proofs.lemmas.Bool.{or_left, or_right}
 use Rattle.c_reader.proofs.Local.{from}
 use Rattle.c_reader.proofs.Sets.{both, not_true, itself, single, same_class}
 use Rattle.c_syntax.specs.Allowed.{may_happen}
-use Rattle.c_syntax.specs.Reading.{Listed, Parts, Gathered, nothing, with_first, list_from, the_list, spanned, gathered, gathered_by, Before, Usual, before_by, is_absent, inside, is_class, pieces_in}
+use Rattle.c_syntax.specs.Reading.{Listed, Parts, Gathered, nothing, with_first, list_from, the_list, spanned, gathered, gathered_by, many, Before, Usual, before_by, is_absent, inside, is_class, pieces_in}
 use Rattle.c_syntax.specs.Spells.{Spelling, Is, IsGroup, IsHeld, Parted, IsList, Matches}
 use Rattle.c_spelled.specs.Fitting.{parted, is_read, opens, blank, reads, is_due, goes_after, group_goes_on, absent_ends, follows, elements_fit, between_fits, group_fits, is_ended_by, fitting}
 use Rattle.c_spelled.proofs.Off.{Off, On, on_here, off, off_left, off_right, off_both, off_given}
@@ -54,6 +55,14 @@ is_not w c i o = by_false (is_class c (seen_at w i)) (λ y.
 
 off_head : (b : Bool) (a : Classes) (c : Classes) (w : List Shape) (place : ℕ) → b ≡ true → Off (given b a ++ c) w place → Off a w place
 off_head b a c w place e o = off_given b a w place e (off_left (given b a) c w place o)
+
+abbrev has_none : List Plain → Bool
+has_none [] = true
+has_none (t ∷ ts) = false
+
+no_trees : (ts : List Plain) → is_none (forest ts) ≡ has_none ts
+no_trees [] = refl
+no_trees (t ∷ ts) = refl
 
 module _ (body : Body) (d top : ℕ) (w : List Shape) (P : Spelling) (part : Parts) (B : AllBegin w P) (E : AllRead body d top w P part) where
   -- what follows does not go on, where it has a token or not
@@ -98,7 +107,7 @@ module _ (body : Body) (d top : ℕ) (w : List Shape) (P : Spelling) (part : Par
   element_read due least r t i j p o = E due least t i j (both (is_read due) _ r).0 p o
 
   abbrev after_group : Sort → Form → List Piece → ℕ × Gathered → Reader Listed
-  after_group own f ps g = pieces_in part own f (before_by (is_none (forest g.1.trees))) ps >>= λ h. Give (with_first (list_from g.0 g.1) h)
+  after_group own f ps g = pieces_in part own f (before_by (has_none g.1.trees)) ps >>= λ h. Give (with_first (list_from g.0 g.1) h)
 
   -- a list, and what follows it
   in_order : (own : Sort) (f : Form) (ps : List Piece) (us others ts : List Plain) (t : Plain) (i k j : Spot) (o : Outcome (ℕ × Gathered)) (q : Outcome Listed) → t ≡ forests.node the_list (spanned i.place k.place) us → ts ≡ t ∷ others
@@ -108,7 +117,7 @@ module _ (body : Body) (d top : ℕ) (w : List Shape) (P : Spelling) (part : Par
     height = max height H.height;
     low = omega (arith, low, H.low);
     reads = e' ∙ ap (λ o. and_then o (λ g j. read body d (after_group own f ps g) j)) e
-        ∙ ap (λ o. and_then o (λ h j. Ok (with_first (list_from i.place (listed us height k.place false)) h, j))) H.reads
+        ∙ ap (λ o. and_then o (λ h j. Ok (with_first (list_from i.place (listed us height k.place false)) h, j))) (ap (λ b. read body d (pieces_in part own f (before_by b) ps) (from w k)) (sym (no_trees us)) ∙ H.reads)
         ∙ ap (λ us. Ok (side_by_side us (max height H.height), from w j)) (ap (λ t. t ∷ others) (sym v) ∙ sym v');
   }
 
@@ -144,3 +153,133 @@ module _ (body : Body) (d top : ℕ) (w : List Shape) (P : Spelling) (part : Par
           group_read body d top w due least (P due least) (part due least) (element_begins due least r') (element_read due least r') r before us i k U fit.0 M.is_first.1.1 out gone in
       in_order own f ps us M.others ts M.first i k j _ q M.is_first.1.0 M.value G.height G.low (in_gathered r due least before i (listed us G.height k.place false) k G.reads) e
           (rest (before_by (is_none (forest us))) M.others k here)
+
+  abbrev after_end : Sort → Form → Piece → List Piece → ℕ × Gathered → Reader Listed
+  after_end own f p ps g = choose g.1.is_ended (pieces_in part own f Usual ps) (pieces_in part own f Usual (p ∷ ps)) >>= λ h. Give (with_first (list_from g.0 g.1) h)
+
+  -- a list that may end in its separator, and what follows it
+  end_follows : (own : Sort) (f : Form) (s e : Class) (due : Sort) (least : ℕ) (before : Before) (c z : Class) (ps : List Piece) (ts : List Plain) (i j : Spot)
+      → (is_read due && not (may_be_empty due)) ≡ true → group_fits own f (Ended s e) due least (Maybe c ∷ (Token z ∷ ps)) ≡ true
+      → (M : Parted (IsList (IsGroup (Ended s e) due (P due least) before w)) (λ t. Matches P w own f (before_by (is_none t.parts)) (Maybe c ∷ (Token z ∷ ps))) ts i j)
+      → ((before : Before) (ts : List Plain) (k : Spot) → Matches P w own f before (Token z ∷ ps) ts k j → GotParts (read body d (pieces_in part own f before (Token z ∷ ps)) (from w k)) top ts w j)
+      → ((before : Before) (ts : List Plain) (k : Spot) → Matches P w own f before (Maybe c ∷ (Token z ∷ ps)) ts k j → GotParts (read body d (pieces_in part own f before (Maybe c ∷ (Token z ∷ ps))) (from w k)) top ts w j)
+      → GotParts (read body d (pieces_in part own f before (Group (Ended s e) due least ∷ (Maybe c ∷ (Token z ∷ ps)))) (from w i)) top ts w j
+  unfolding pieces_in many
+  end_follows own f s e due least before c z ps ts i j r' F M short long =
+      let fits = both (elements_fit (Ended s e) due least && parted (class_number s ∷ (class_number e ∷ [])) (goes_on due least)) _ F in
+      let fit = both (elements_fit (Ended s e) due least) _ fits.0 in
+      let inner = both (between_fits (Some s) due least) _ fit.0 in
+      let named = both (is_ended_by s e (Maybe c ∷ (Token z ∷ ps))) _ fits.1 in
+      let same = both (nat_eq (class_number c) (class_number s)) _ named.0 in
+      let is_s : class_number c ≡ class_number s = same_class (class_number c) (class_number s) same.0 in
+      let is_e : class_number z ≡ class_number e = same_class (class_number z) (class_number e) same.1 in
+      let us : List Plain = M.is_first.0 in
+      let k : Spot = M.place in
+      let both_set : List ℕ = class_number s ∷ (class_number e ∷ []) in
+      let in_s : Is w c k → has both_set (class_at w k) ≡ true = λ x. ap (has both_set) (x ∙ is_s) ∙ or_left (nat_eq (class_number s) (class_number s)) _ (itself (class_number s)) in
+      let in_e : Is w z k → has both_set (class_at w k) ≡ true = λ x. ap (has both_set) (x ∙ is_e) ∙ or_right (nat_eq (class_number s) (class_number e)) _ (or_left (nat_eq (class_number e) (class_number e)) false (itself (class_number e))) in
+      let out : has both_set (class_at w k) ≡ true → Off (goes_on due least) w k.place = λ x. off both_set (goes_on due least) w k.place fit.1 (on_here both_set w k x) in
+      let G : Off (goes_on due least) w k.place → _ = λ o. ended_read body d top w due least (P due least) (part due least) (element_begins due least r') (element_read due least r') s e inner.0 inner.1 us i.place i k M.is_first.1.1 o in
+      elim (M.are_others) [
+        | inl O ↦ let A : GotAll (read body d (gathered_by (Ended s e) due (part due least) before i.place) (from w i)) top us true k.place w (step k) = (G (out (in_s O.0))).1 (O.0 ∙ is_s) (O.1.0 ∙ is_e) in
+            let H : GotParts (read body d (pieces_in part own f Usual (Token z ∷ ps)) (from w (step k))) top M.others w j = short Usual M.others (step k) O.1 in
+            record {
+              height = max A.height H.height;
+              low = omega (arith, A.low, H.low);
+              reads = ap (λ o. and_then o (λ g j. read body d (after_end own f (Maybe c) (Token z ∷ ps) g) j)) (in_gathered (Ended s e) due least before i (listed us A.height k.place true) (step k) A.reads)
+                  ∙ ap (λ o. and_then o (λ h j. Ok (with_first (list_from i.place (listed us A.height k.place true)) h, j))) H.reads
+                  ∙ ap (λ us. Ok (side_by_side us (max A.height H.height), from w j)) (ap (λ t. t ∷ M.others) (sym M.is_first.1.0) ∙ sym M.value);
+            }
+        | inr O ↦ let A : GotAll (read body d (gathered_by (Ended s e) due (part due least) before i.place) (from w i)) top us false k.place w k = (G (out (in_e O.0))).0
+                (ap (λ n. nat_eq n (class_number s)) (O.0 ∙ is_e) ∙ not_true (nat_eq (class_number e) (class_number s)) named.1) in
+            let H : GotParts (read body d (pieces_in part own f Usual (Maybe c ∷ (Token z ∷ ps))) (from w k)) top M.others w j = long Usual M.others k (inr O) in
+            record {
+              height = max A.height H.height;
+              low = omega (arith, A.low, H.low);
+              reads = ap (λ o. and_then o (λ g j. read body d (after_end own f (Maybe c) (Token z ∷ ps) g) j)) (in_gathered (Ended s e) due least before i (listed us A.height k.place false) k A.reads)
+                  ∙ ap (λ o. and_then o (λ h j. Ok (with_first (list_from i.place (listed us A.height k.place false)) h, j))) H.reads
+                  ∙ ap (λ us. Ok (side_by_side us (max A.height H.height), from w j)) (ap (λ t. t ∷ M.others) (sym M.is_first.1.0) ∙ sym M.value);
+            }
+      ]
+
+  ended_part : (own : Sort) (f : Form) (s e : Class) (due : Sort) (least : ℕ) (ps : List Piece) → group_fits own f (Ended s e) due least ps ≡ true → is_ended_by s e ps ≡ true
+  ended_part own f s e due least ps F = (both (is_ended_by s e ps) _ (both (elements_fit (Ended s e) due least && parted (class_number s ∷ (class_number e ∷ [])) (goes_on due least)) _ F).1).0
+
+  past_maybe : (own : Sort) (c : Class) (ps : List Piece) (place : ℕ) → Off (follows own (Maybe c ∷ ps)) w place → Off (follows own ps) w place
+  past_maybe own c ps place o = off_right (given (blank own Usual ps) (class_number c ∷ [])) (follows own ps) w place o
+
+  past_one : (own due : Sort) (least : ℕ) (ps : List Piece) (place : ℕ) → Off (follows own (One due least ∷ ps)) w place → Off (follows own ps) w place
+  past_one own due least ps place o = off_right (given (blank own Usual ps) (goes_on (inside own due) least)) (follows own ps) w place o
+
+  past_group : (own : Sort) (r : Repetition) (due : Sort) (least : ℕ) (ps : List Piece) (place : ℕ) → Off (follows own (Group r due least ∷ ps)) w place → Off (follows own ps) w place
+  past_group own r due least ps place o = off_right (given (blank own Usual ps) (group_goes_on r due least ++ given (not (is_due ps)) (absent_ends r due))) (follows own ps) w place o
+
+  -- after a token that is there
+  token_on : (b : Bool) (r : Reader Listed) (i : Spot) → b ≡ true → and_then (pick (only b) (from w i)) (λ _ j. read body d r j) ≡ read body d r (from w (step i))
+  token_on true r i e = refl
+  token_on false r i e = absurd (cc e)
+
+  maybe_at : (b c : Bool) (r q : Reader Listed) (i : Spot) → b ≡ c → read body d (choose b r q) (from w i) ≡ read body d (choose c r q) (from w i)
+  maybe_at b c r q i e = ap (λ b. read body d (choose b r q) (from w i)) e
+
+  same_parts : {o q : Outcome Listed} (ts : List Plain) (j : Spot) → o ≡ q → GotParts q top ts w j → GotParts o top ts w j
+  same_parts ts j e G = record { height = G.height; low = G.low; reads = e ∙ G.reads }
+
+  pub pieces_read : (own : Sort) (f : Form) (before : Before) (ps : List Piece) (ts : List Plain) (i j : Spot) → reads own ps ≡ true → fitting own f ps ≡ true → Off (follows own ps) w j.place
+      → Matches P w own f before ps ts i j → GotParts (read body d (pieces_in part own f before ps) (from w i)) top ts w j
+  unfolding pieces_in
+  pieces_read own f before [] ts i j R F o M = record { height = 0; low = omega arith; reads = ap (λ k. Ok (nothing, from w k)) M.1 ∙ ap (λ us. Ok (side_by_side us 0, from w j)) (sym M.0) }
+  pieces_read own f before (Token c ∷ ps) ts i j R F o M =
+      same_parts ts j (token_on (is_class c (seen_at w i)) (pieces_in part own f Usual ps) i (is_it w c i M.0)) (pieces_read own f Usual ps ts (step i) j R F o M.1)
+  pieces_read own f before (Maybe c ∷ ps) ts i j R F o (inl M) =
+      same_parts ts j (maybe_at (is_class c (seen_at w i)) true (Next (pieces_in part own f Usual ps)) (pieces_in part own f Usual ps) i (is_it w c i M.0))
+          (pieces_read own f Usual ps ts (step i) j R (both (parted (opens own f ps) (class_number c ∷ [])) _ F).1 (past_maybe own c ps j.place o) M.1)
+  pieces_read own f before (Maybe c ∷ ps) ts i j R F o (inr M) =
+      let fit = both (parted (opens own f ps) (class_number c ∷ [])) _ F in
+      let out : Off (class_number c ∷ []) w i.place = ends_off own f Usual ps (class_number c ∷ []) i j fit.0 (starts_so w P B own f Usual ps ts i j R M) (λ b. off_head (blank own Usual ps) (class_number c ∷ []) (follows own ps) w j.place b o) in
+      same_parts ts j (maybe_at (is_class c (seen_at w i)) false (Next (pieces_in part own f Usual ps)) (pieces_in part own f Usual ps) i (is_not w c i out))
+          (pieces_read own f Usual ps ts i j R fit.1 (past_maybe own c ps j.place o) M)
+  pieces_read own f before (Own ∷ ps) ts i j R F o M =
+      same_parts ts j (token_on (has (held_class f) (class_at w i)) (pieces_in part own f Usual ps) i M.0.1) (pieces_read own f Usual ps ts (step i) j R F o M.1)
+  pieces_read own f before (One due least ∷ ps) ts i j R F o M =
+      let r = both (is_read (inside own due)) _ R in
+      let fit = both (parted (opens own f ps) (goes_on (inside own due) least)) _ F in
+      let next : Before = before_by (is_absent M.first) in
+      let out : Off (goes_on (inside own due) least) w M.place.place = ends_off own f next ps (goes_on (inside own due) least) M.place j fit.0 (starts_so w P B own f next ps M.others M.place j r.1 M.are_others)
+          (λ b. off_head (blank own Usual ps) (goes_on (inside own due) least) (follows own ps) w j.place (usually own next ps b) o) in
+      let G : Got (read body d (part (inside own due) least) (from w i)) top M.first w M.place = E (inside own due) least M.first i M.place r.0 M.is_first out in
+      let H : GotParts (read body d (pieces_in part own f next ps) (from w M.place)) top M.others w j = pieces_read own f next ps M.others M.place j r.1 fit.1 (past_one own due least ps j.place o) M.are_others in
+      record {
+        height = max G.height H.height;
+        low = omega (arith, G.low, H.low);
+        reads = ap (λ o. and_then o (λ x j. read body d (pieces_in part own f (before_by (is_absent x.tree)) ps >>= λ g. Give (with_first x g)) j)) G.reads
+            ∙ ap (λ o. and_then o (λ g j. Ok (with_first (record { tree = M.first; height = G.height }) g, j))) H.reads
+            ∙ ap (λ us. Ok (side_by_side us (max G.height H.height), from w j)) (sym M.value);
+      }
+  pieces_read own f before (Group (Ended s e) due least ∷ (Maybe c ∷ (Token z ∷ ps))) ts i j R F o M =
+      let r = both (is_read due && not (may_be_empty due)) _ R in
+      let fit = both (group_fits own f (Ended s e) due least (Maybe c ∷ (Token z ∷ ps))) _ F in
+      let out = past_group own (Ended s e) due least (Maybe c ∷ (Token z ∷ ps)) j.place o in
+      end_follows own f s e due least before c z ps ts i j r.0 fit.0 M (λ before ts k M. pieces_read own f before (Token z ∷ ps) ts k j r.1 (both (parted (opens own f (Token z ∷ ps)) (class_number c ∷ [])) _ fit.1).1 (past_maybe own c (Token z ∷ ps) j.place out) M)
+          (λ before ts k M. pieces_read own f before (Maybe c ∷ (Token z ∷ ps)) ts k j r.1 fit.1 out M)
+  pieces_read own f before (Group (Ended s e) due least ∷ ps) ts i j R F o M = absurd (cc (ended_part own f s e due least ps (both (group_fits own f (Ended s e) due least ps) _ F).0))
+  pieces_read own f before (Group Optional due least ∷ ps) ts i j R F o M = let r = both (is_read due && not (may_be_empty due)) _ R in let k = both (group_fits own f Optional due least ps) _ F in
+      grouped own f Optional due least before ps ts i j refl r.0 r.1 k.0 o M (λ before ts k' M. pieces_read own f before ps ts k' j r.1 k.1 (past_group own Optional due least ps j.place o) M) _ refl
+  pieces_read own f before (Group Greedy due least ∷ ps) ts i j R F o M = let r = both (is_read due && not (may_be_empty due)) _ R in let k = both (group_fits own f Greedy due least ps) _ F in
+      grouped own f Greedy due least before ps ts i j refl r.0 r.1 k.0 o M (λ before ts k' M. pieces_read own f before ps ts k' j r.1 k.1 (past_group own Greedy due least ps j.place o) M) _ refl
+  pieces_read own f before (Group Due due least ∷ ps) ts i j R F o M = let r = both (is_read due && not (may_be_empty due)) _ R in let k = both (group_fits own f Due due least ps) _ F in
+      grouped own f Due due least before ps ts i j refl r.0 r.1 k.0 o M (λ before ts k' M. pieces_read own f before ps ts k' j r.1 k.1 (past_group own Due due least ps j.place o) M) _ refl
+  pieces_read own f before (Group All due least ∷ ps) ts i j R F o M = let r = both (is_read due && not (may_be_empty due)) _ R in let k = both (group_fits own f All due least ps) _ F in
+      grouped own f All due least before ps ts i j refl r.0 r.1 k.0 o M (λ before ts k' M. pieces_read own f before ps ts k' j r.1 k.1 (past_group own All due least ps j.place o) M) _ refl
+  pieces_read own f before (Group Any due least ∷ ps) ts i j R F o M = let r = both (is_read due && not (may_be_empty due)) _ R in let k = both (group_fits own f Any due least ps) _ F in
+      grouped own f Any due least before ps ts i j refl r.0 r.1 k.0 o M (λ before ts k' M. pieces_read own f before ps ts k' j r.1 k.1 (past_group own Any due least ps j.place o) M) _ refl
+  pieces_read own f before (Group (Many s n) due least ∷ ps) ts i j R F o M = let r = both (is_read due && not (may_be_empty due)) _ R in let k = both (group_fits own f (Many s n) due least ps) _ F in
+      grouped own f (Many s n) due least before ps ts i j refl r.0 r.1 k.0 o M (λ before ts k' M. pieces_read own f before ps ts k' j r.1 k.1 (past_group own (Many s n) due least ps j.place o) M) _ refl
+  pieces_read own f before (Group (Spliced s n) due least ∷ ps) ts i j R F o M = let r = both (is_read due && not (may_be_empty due)) _ R in let k = both (group_fits own f (Spliced s n) due least ps) _ F in
+      grouped own f (Spliced s n) due least before ps ts i j refl r.0 r.1 k.0 o M (λ before ts k' M. pieces_read own f before ps ts k' j r.1 k.1 (past_group own (Spliced s n) due least ps j.place o) M) _ refl
+  pieces_read own f before (Then e ∷ ps) ts i j R F o M =
+      same_parts ts j (maybe_at (may_happen e i.state) true (Change e (pieces_in part own f before ps)) Refuse i M.0) (pieces_read own f before ps ts (turned (happens e) i) j R F o M.1)
+  pieces_read own f before (TypeTokens ∷ ps) ts i j R F o M = absurd M
+  pieces_read own f before (KindName ∷ ps) ts i j R F o M = absurd M
+  pieces_read own f before (Rest due ∷ ps) ts i j R F o M = absurd M
+  pieces_read own f before (Anything ∷ ps) ts i j R F o M = absurd M
