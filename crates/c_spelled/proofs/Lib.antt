@@ -5,3 +5,4 @@ mod Begins
 mod Turns
 mod Groups
 mod Pieces
+mod Shapes
