@@ -6,3 +6,5 @@ mod Turns
 mod Groups
 mod Pieces
 mod Shapes
+mod Alone
+mod Nodes

@@ -210,7 +210,7 @@ blank_fits due f false = true
 abbrev pub begins_so : Sort → Form → Bool
 begins_so due f = reads due (pieces f) && (is_calm due (pieces f) && (within (opens due f (pieces f)) (starts due) && blank_fits due f (blank due Usual (pieces f))))
 
-abbrev is_typed_list : Form → Bool
+abbrev pub is_typed_list : Form → Bool
 is_typed_list (form.Params params.Ids) = false
 is_typed_list (form.Params f) = true
 is_typed_list _ = false

@@ -1,0 +1,153 @@
+-- The form of a node where only one may stand.
+use Rattle.std.proofs.Common.{◌≡◌, refl, Bool, true, false}
+use Rattle.c_forms.specs.declared.pieces.Sort.{Sort}
+use Rattle.c_forms.specs.declared.pieces.Sort.TheVariants as s
+use Rattle.c_forms.specs.declared.forms.Form.{Form}
+use Rattle.c_forms.specs.declared.forms.Form.TheVariants as form
+use Rattle.c_forms.specs.declared.forms.ExpForm.TheVariants as exp
+use Rattle.c_forms.specs.declared.forms.SpecForm.TheVariants as spec
+use Rattle.c_forms.specs.declared.forms.StmtForm.TheVariants as stmt
+use Rattle.c_forms.specs.declared.forms.ItemForm.TheVariants as item
+use Rattle.c_forms.specs.declared.forms.TemplateForm.TheVariants as template
+use Rattle.c_forms.specs.declared.forms.GroupForm.TheVariants as group
+use Rattle.c_syntax.specs.Spells.{may_be}
+
+pub type_name_form : (f : Form) → may_be s.TypeName f ≡ true → f ≡ form.TypeName
+type_name_form (form.TypeName) m = refl
+type_name_form (form.Exp (exp.Int w)) m = absurd (cc m)
+type_name_form (form.Spec (spec.Storage c)) m = absurd (cc m)
+type_name_form (form.Stmt stmt.Block) m = absurd (cc m)
+type_name_form (form.Item item.Function) m = absurd (cc m)
+type_name_form (form.Template (template.Many k)) m = absurd (cc m)
+type_name_form (form.Group group.List) m = absurd (cc m)
+type_name_form _ m = absurd (cc m)
+
+pub member_form : (f : Form) → may_be s.Member f ≡ true → f ≡ form.Member
+member_form (form.Member) m = refl
+member_form (form.Exp (exp.Int w)) m = absurd (cc m)
+member_form (form.Spec (spec.Storage c)) m = absurd (cc m)
+member_form (form.Stmt stmt.Block) m = absurd (cc m)
+member_form (form.Item item.Function) m = absurd (cc m)
+member_form (form.Template (template.Many k)) m = absurd (cc m)
+member_form (form.Group group.List) m = absurd (cc m)
+member_form _ m = absurd (cc m)
+
+pub enumerator_form : (f : Form) → may_be s.Enumerator f ≡ true → f ≡ form.Enumerator
+enumerator_form (form.Enumerator) m = refl
+enumerator_form (form.Exp (exp.Int w)) m = absurd (cc m)
+enumerator_form (form.Spec (spec.Storage c)) m = absurd (cc m)
+enumerator_form (form.Stmt stmt.Block) m = absurd (cc m)
+enumerator_form (form.Item item.Function) m = absurd (cc m)
+enumerator_form (form.Template (template.Many k)) m = absurd (cc m)
+enumerator_form (form.Group group.List) m = absurd (cc m)
+enumerator_form _ m = absurd (cc m)
+
+pub param_form : (f : Form) → may_be s.Param f ≡ true → f ≡ form.Param
+param_form (form.Param) m = refl
+param_form (form.Exp (exp.Int w)) m = absurd (cc m)
+param_form (form.Spec (spec.Storage c)) m = absurd (cc m)
+param_form (form.Stmt stmt.Block) m = absurd (cc m)
+param_form (form.Item item.Function) m = absurd (cc m)
+param_form (form.Template (template.Many k)) m = absurd (cc m)
+param_form (form.Group group.List) m = absurd (cc m)
+param_form _ m = absurd (cc m)
+
+pub decl_form : (f : Form) → may_be s.Decl f ≡ true → f ≡ form.Decl
+decl_form (form.Decl) m = refl
+decl_form (form.Exp (exp.Int w)) m = absurd (cc m)
+decl_form (form.Spec (spec.Storage c)) m = absurd (cc m)
+decl_form (form.Stmt stmt.Block) m = absurd (cc m)
+decl_form (form.Item item.Function) m = absurd (cc m)
+decl_form (form.Template (template.Many k)) m = absurd (cc m)
+decl_form (form.Group group.List) m = absurd (cc m)
+decl_form _ m = absurd (cc m)
+
+pub block_form : (f : Form) → may_be s.Block f ≡ true → f ≡ form.Stmt stmt.Block
+block_form (form.Stmt stmt.Block) m = refl
+block_form (form.Exp (exp.Int w)) m = absurd (cc m)
+block_form (form.Spec (spec.Storage c)) m = absurd (cc m)
+block_form (form.Item item.Function) m = absurd (cc m)
+block_form (form.Template (template.Many k)) m = absurd (cc m)
+block_form (form.Group group.List) m = absurd (cc m)
+block_form _ m = absurd (cc m)
+
+pub init_declarator_form : (f : Form) → may_be s.InitDeclarator f ≡ true → f ≡ form.Group group.InitDeclarator
+init_declarator_form (form.Group group.InitDeclarator) m = refl
+init_declarator_form (form.Exp (exp.Int w)) m = absurd (cc m)
+init_declarator_form (form.Spec (spec.Storage c)) m = absurd (cc m)
+init_declarator_form (form.Stmt stmt.Block) m = absurd (cc m)
+init_declarator_form (form.Item item.Function) m = absurd (cc m)
+init_declarator_form (form.Template (template.Many k)) m = absurd (cc m)
+init_declarator_form (form.Group group.List) m = absurd (cc m)
+init_declarator_form _ m = absurd (cc m)
+
+pub initializer_form : (f : Form) → may_be s.Initializer f ≡ true → f ≡ form.Group group.Initializer
+initializer_form (form.Group group.Initializer) m = refl
+initializer_form (form.Exp (exp.Int w)) m = absurd (cc m)
+initializer_form (form.Spec (spec.Storage c)) m = absurd (cc m)
+initializer_form (form.Stmt stmt.Block) m = absurd (cc m)
+initializer_form (form.Item item.Function) m = absurd (cc m)
+initializer_form (form.Template (template.Many k)) m = absurd (cc m)
+initializer_form (form.Group group.List) m = absurd (cc m)
+initializer_form _ m = absurd (cc m)
+
+pub member_declarator_form : (f : Form) → may_be s.MemberDeclarator f ≡ true → f ≡ form.Group group.MemberDeclarator
+member_declarator_form (form.Group group.MemberDeclarator) m = refl
+member_declarator_form (form.Exp (exp.Int w)) m = absurd (cc m)
+member_declarator_form (form.Spec (spec.Storage c)) m = absurd (cc m)
+member_declarator_form (form.Stmt stmt.Block) m = absurd (cc m)
+member_declarator_form (form.Item item.Function) m = absurd (cc m)
+member_declarator_form (form.Template (template.Many k)) m = absurd (cc m)
+member_declarator_form (form.Group group.List) m = absurd (cc m)
+member_declarator_form _ m = absurd (cc m)
+
+pub width_form : (f : Form) → may_be s.Width f ≡ true → f ≡ form.Group group.Width
+width_form (form.Group group.Width) m = refl
+width_form (form.Exp (exp.Int w)) m = absurd (cc m)
+width_form (form.Spec (spec.Storage c)) m = absurd (cc m)
+width_form (form.Stmt stmt.Block) m = absurd (cc m)
+width_form (form.Item item.Function) m = absurd (cc m)
+width_form (form.Template (template.Many k)) m = absurd (cc m)
+width_form (form.Group group.List) m = absurd (cc m)
+width_form _ m = absurd (cc m)
+
+pub members_form : (f : Form) → may_be s.Members f ≡ true → f ≡ form.Group group.Members
+members_form (form.Group group.Members) m = refl
+members_form (form.Exp (exp.Int w)) m = absurd (cc m)
+members_form (form.Spec (spec.Storage c)) m = absurd (cc m)
+members_form (form.Stmt stmt.Block) m = absurd (cc m)
+members_form (form.Item item.Function) m = absurd (cc m)
+members_form (form.Template (template.Many k)) m = absurd (cc m)
+members_form (form.Group group.List) m = absurd (cc m)
+members_form _ m = absurd (cc m)
+
+pub enumerators_form : (f : Form) → may_be s.Enumerators f ≡ true → f ≡ form.Group group.Enumerators
+enumerators_form (form.Group group.Enumerators) m = refl
+enumerators_form (form.Exp (exp.Int w)) m = absurd (cc m)
+enumerators_form (form.Spec (spec.Storage c)) m = absurd (cc m)
+enumerators_form (form.Stmt stmt.Block) m = absurd (cc m)
+enumerators_form (form.Item item.Function) m = absurd (cc m)
+enumerators_form (form.Template (template.Many k)) m = absurd (cc m)
+enumerators_form (form.Group group.List) m = absurd (cc m)
+enumerators_form _ m = absurd (cc m)
+
+pub enumerator_value_form : (f : Form) → may_be s.EnumeratorValue f ≡ true → f ≡ form.Group group.EnumeratorValue
+enumerator_value_form (form.Group group.EnumeratorValue) m = refl
+enumerator_value_form (form.Exp (exp.Int w)) m = absurd (cc m)
+enumerator_value_form (form.Spec (spec.Storage c)) m = absurd (cc m)
+enumerator_value_form (form.Stmt stmt.Block) m = absurd (cc m)
+enumerator_value_form (form.Item item.Function) m = absurd (cc m)
+enumerator_value_form (form.Template (template.Many k)) m = absurd (cc m)
+enumerator_value_form (form.Group group.List) m = absurd (cc m)
+enumerator_value_form _ m = absurd (cc m)
+
+pub else_part_form : (f : Form) → may_be s.ElsePart f ≡ true → f ≡ form.Group group.ElsePart
+else_part_form (form.Group group.ElsePart) m = refl
+else_part_form (form.Exp (exp.Int w)) m = absurd (cc m)
+else_part_form (form.Spec (spec.Storage c)) m = absurd (cc m)
+else_part_form (form.Stmt stmt.Block) m = absurd (cc m)
+else_part_form (form.Item item.Function) m = absurd (cc m)
+else_part_form (form.Template (template.Many k)) m = absurd (cc m)
+else_part_form (form.Group group.List) m = absurd (cc m)
+else_part_form _ m = absurd (cc m)
+
