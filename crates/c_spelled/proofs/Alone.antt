@@ -1,11 +1,13 @@
 -- The form of a node where only one may stand.
-use Rattle.std.proofs.Common.{◌≡◌, refl, Bool, true, false}
+use Rattle.std.proofs.Common.{◌≡◌, ◌⊎◌, inl, inr, refl, Bool, true, false}
 use Rattle.c_forms.specs.declared.pieces.Sort.{Sort}
 use Rattle.c_forms.specs.declared.pieces.Sort.TheVariants as s
 use Rattle.c_forms.specs.declared.forms.Form.{Form}
 use Rattle.c_forms.specs.declared.forms.Form.TheVariants as form
 use Rattle.c_forms.specs.declared.forms.ExpForm.TheVariants as exp
 use Rattle.c_forms.specs.declared.forms.SpecForm.TheVariants as spec
+use Rattle.c_forms.specs.declared.forms.InitForm.TheVariants as init
+use Rattle.c_forms.specs.declared.forms.ParamsForm.TheVariants as params
 use Rattle.c_forms.specs.declared.forms.StmtForm.TheVariants as stmt
 use Rattle.c_forms.specs.declared.forms.ItemForm.TheVariants as item
 use Rattle.c_forms.specs.declared.forms.TemplateForm.TheVariants as template
@@ -151,3 +153,56 @@ else_part_form (form.Template (template.Many k)) m = absurd (cc m)
 else_part_form (form.Group group.List) m = absurd (cc m)
 else_part_form _ m = absurd (cc m)
 
+abbrev pub is_spec : Form → Bool
+is_spec (form.Spec f) = true
+is_spec f = false
+
+pub spec_is : (f : Form) → may_be s.Spec f ≡ true → is_spec f ≡ true
+spec_is (form.Spec f) m = refl
+spec_is (form.Exp (exp.Int w)) m = absurd (cc m)
+spec_is (form.Stmt stmt.Block) m = absurd (cc m)
+spec_is (form.Item item.Function) m = absurd (cc m)
+spec_is (form.Template (template.Many k)) m = absurd (cc m)
+spec_is (form.Group group.List) m = absurd (cc m)
+spec_is _ m = absurd (cc m)
+
+pub plain_spec_is : (f : Form) → may_be s.PlainSpec f ≡ true → is_spec f ≡ true
+plain_spec_is (form.Spec f) m = refl
+plain_spec_is (form.Exp (exp.Int w)) m = absurd (cc m)
+plain_spec_is (form.Stmt stmt.Block) m = absurd (cc m)
+plain_spec_is (form.Item item.Function) m = absurd (cc m)
+plain_spec_is (form.Template (template.Many k)) m = absurd (cc m)
+plain_spec_is (form.Group group.List) m = absurd (cc m)
+plain_spec_is _ m = absurd (cc m)
+
+pub qualifier_is : (f : Form) → may_be s.Qualifier f ≡ true → is_spec f ≡ true
+qualifier_is (form.Spec f) m = refl
+qualifier_is (form.Exp (exp.Int w)) m = absurd (cc m)
+qualifier_is (form.Stmt stmt.Block) m = absurd (cc m)
+qualifier_is (form.Item item.Function) m = absurd (cc m)
+qualifier_is (form.Template (template.Many k)) m = absurd (cc m)
+qualifier_is (form.Group group.List) m = absurd (cc m)
+qualifier_is _ m = absurd (cc m)
+
+pub init_is : (f : Form) → may_be s.Init f ≡ true → (f ≡ form.Init init.One) ⊎ (f ≡ form.Init init.Braces)
+init_is (form.Init init.One) m = inl refl
+init_is (form.Init init.Braces) m = inr refl
+init_is (form.Exp (exp.Int w)) m = absurd (cc m)
+init_is (form.Spec (spec.Storage c)) m = absurd (cc m)
+init_is (form.Stmt stmt.Block) m = absurd (cc m)
+init_is (form.Item item.Function) m = absurd (cc m)
+init_is (form.Template (template.Many k)) m = absurd (cc m)
+init_is (form.Group group.List) m = absurd (cc m)
+init_is _ m = absurd (cc m)
+
+pub params_is : (f : Form) → may_be s.Params f ≡ true → (f ≡ form.Params params.Ids) ⊎ ((f ≡ form.Params params.Typed) ⊎ (f ≡ form.Params params.TypedAndMore))
+params_is (form.Params params.Ids) m = inl refl
+params_is (form.Params params.Typed) m = inr (inl refl)
+params_is (form.Params params.TypedAndMore) m = inr (inr refl)
+params_is (form.Exp (exp.Int w)) m = absurd (cc m)
+params_is (form.Spec (spec.Storage c)) m = absurd (cc m)
+params_is (form.Stmt stmt.Block) m = absurd (cc m)
+params_is (form.Item item.Function) m = absurd (cc m)
+params_is (form.Template (template.Many k)) m = absurd (cc m)
+params_is (form.Group group.List) m = absurd (cc m)
+params_is _ m = absurd (cc m)

@@ -8,3 +8,4 @@ mod Pieces
 mod Shapes
 mod Alone
 mod Nodes
+mod Parts
