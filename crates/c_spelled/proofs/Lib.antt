@@ -9,3 +9,4 @@ mod Shapes
 mod Alone
 mod Nodes
 mod Parts
+mod Params
