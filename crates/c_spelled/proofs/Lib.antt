@@ -10,3 +10,4 @@ mod Alone
 mod Nodes
 mod Parts
 mod Params
+mod Levels

@@ -56,7 +56,7 @@ the a None = a
 same_key : (a b : Key) → key_number a ≡ key_number b → a ≡ b
 same_key a b e = ap (the a) (sym (key_found a) ∙ ap (find_key all_keys) e ∙ key_found b)
 
-same_punct : (a b : Punct) → punct_number a ≡ punct_number b → a ≡ b
+pub same_punct : (a b : Punct) → punct_number a ≡ punct_number b → a ≡ b
 same_punct a b e = ap (the a) (sym (punct_found a) ∙ ap (find_punct all_puncts) e ∙ punct_found b)
 
 fixed_key : (key : Key) → fixed (key_number key) ≡ true
