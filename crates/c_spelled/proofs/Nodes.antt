@@ -1,6 +1,7 @@
 -- What spells a node by its row is read, and so is a word or a literal.
-use Rattle.std.proofs.Common.{◌≡◌, ◌⊎◌, inl, inr, refl, subst, ap, sym, ◌∙◌, ℕ, zero, suc, ◌+◌, ◌<◌, ◌≤◌, max, not, nat_lt, Bool, true, false, ◌||◌, ◌&&◌, List, length, [], ◌∷◌, ◌++◌, nat_eq, Option, Some, None, Ok, Err, arith}
+use Rattle.std.proofs.Common.{◌≡◌, ◌⊎◌, inl, inr, refl, subst, ap, sym, ◌∙◌, ℕ, zero, suc, ◌+◌, ◌<◌, ◌≤◌, max, not, nat_lt, Bool, true, false, ◌||◌, ◌&&◌, List, length, [], ◌∷◌, ◌++◌, nat_eq, if◌then◌else◌, Option, Some, None, Ok, Err, arith}
 use Rattle.std.proofs.lemmas.Bool.{lt-ltb}
+use borrow.Author.Tests.{ltb-true}
 use Rattle.c_tokens.specs.declared.token.Word.{Word}
 use Rattle.c_tokens.specs.declared.token.Shape.{Shape}
 use Rattle.c_tokens.specs.declared.token.Shape.TheVariants as shape
@@ -19,10 +20,11 @@ use Rattle.c_reader.specs.Tokens.{Spot, spot, step, turned, raw_at, seen_at, cla
 use Rattle.c_reader.specs.Readers.{Input, Reader, Found, Outcome, Body, read, and_then, pick, when}
 use Rattle.c_reader.proofs.Local.{from}
 use Rattle.c_reader.proofs.Sets.{both, not_true, itself, within_lacks}
+use Rattle.c_syntax.specs.Allowed.{places}
 use Rattle.c_syntax.specs.Reading.{Listed, Parts, nothing, node, joined, height_over, called, parts_by, parts_of, is_starred, spanned, Before, Usual, is_absent, pieces_in, completed}
 use Rattle.c_syntax.specs.Grammar.{charged, whole, leaf_if, is_word, is_value, identifier, declared_identifier, parameter_identifier, enumerator_identifier, literal}
 use Rattle.c_syntax.specs.Spells.{Spelling, Is, Matches, parts_spelled, Levels, IsNode, may_be, AnyWord, ValueWord, IsLiteral, after_name}
-use Rattle.c_spelled.specs.Fitting.{is_read, reads, follows, fitting, is_leveled, is_typed_list, begins_so, fits_so, row_fits}
+use Rattle.c_spelled.specs.Fitting.{is_read, reads, follows, fitting, is_leveled, is_typed_list, need, needs, bound, needs_so, begins_so, fits_so, row_fits}
 use Rattle.c_spelled.proofs.Off.{Off}
 use Rattle.c_spelled.proofs.Begins.{AllBegin, choose_begin, row, Row}
 use Rattle.c_spelled.proofs.Groups.{Got}
@@ -47,6 +49,11 @@ pub record Fits (due : Sort) (f : Form) : Type 0 where
   pub reads : reads due (pieces f) ≡ true
   pub fits : fitting due f (pieces f) ≡ true
   pub ends : within (follows due (pieces f)) (goes_on due 0) ≡ true
+  pub few : (n : ℕ) → need due ≤ n + 1 → needs due (pieces f) ≤ bound (is_starred f) n
+
+few_so : (b : Bool) (k m n : ℕ) → (if b then nat_lt k (places + 1) else nat_lt k m) ≡ true → m ≤ n + 1 → k ≤ bound b n
+few_so true k m n h l = omega (arith, ltb-true k (places + 1) h)
+few_so false k m n h l = omega (arith, ltb-true k m h, l)
 
 skipped : (a b : Bool) → a ≡ false → (a || b) ≡ true → b ≡ true
 skipped true b e h = absurd (cc e)
@@ -54,8 +61,9 @@ skipped false b e h = h
 
 pub fits_of : (due : Sort) (f : Form) → has_row due ≡ true → is_leveled due ≡ false → is_typed_list f ≡ false → may_be due f ≡ true → Fits due f
 fits_of due f h l t m = let k = both (begins_so due f) _ (rows due f h m) in
-    let e = both (fitting due f (pieces f)) _ (skipped (is_typed_list f) (fits_so due f) t (skipped (is_leveled due) _ l k.1)) in
-    record { reads = (row due f k.0).reads; fits = e.0; ends = e.1 }
+    let a = both (fits_so due f) _ (skipped (is_typed_list f) (fits_so due f && needs_so due f) t (skipped (is_leveled due) _ l k.1)) in
+    let e = both (fitting due f (pieces f)) _ a.0 in
+    record { reads = (row due f k.0).reads; fits = e.0; ends = e.1; few = λ n low. few_so (is_starred f) (needs due (pieces f)) (need due) n a.1 low }
 
 abbrev pub Room : Type 0 → ℕ → ℕ → Type 0
 Room levels d top = levels → (0 < d) × (0 < top)
@@ -63,18 +71,18 @@ Room levels d top = levels → (0 < d) × (0 < top)
 pub same_got : (top : ℕ) (w : List Shape) (t u : Plain) (j : Spot) (o q : Outcome Found) → o ≡ q → t ≡ u → Got q top u w j → Got o top t w j
 same_got top w t u j o q e f G = record { height = G.height; low = G.low; reads = e ∙ G.reads ∙ ap (λ t. Ok (record { tree = t; height = G.height }, from w j)) (sym f) }
 
-module _ (body : Body) (d top : ℕ) (w : List Shape) (levels : Type 0) (room : Room levels d top) (deeper inner : Spelling) (part : Parts)
-    (DB : AllBegin w deeper) (IB : AllBegin w inner) (DE : AllRead body d top w deeper called) (IE : AllRead body d top w inner part) where
-  parts_read : (b : Bool) → AllRead body d top w (parts_spelled b deeper inner) (parts_by b part)
+module _ (body : Body) (d top : ℕ) (w : List Shape) (levels : Type 0) (room : Room levels d top) (n : ℕ) (deeper inner : Spelling) (part : Parts)
+    (DB : AllBegin w deeper) (IB : AllBegin w inner) (DE : AllRead body d top w places deeper called) (IE : AllRead body d top w n inner part) where
+  parts_read : (b : Bool) → AllRead body d top w (bound b n) (parts_spelled b deeper inner) (parts_by b part)
   parts_read true = DE
   parts_read false = IE
 
   abbrev pub Parts_match : Sort → Form → List Piece → List Plain → Spot → Spot → Type 0
   Parts_match own f ps ts i j = Matches (parts_spelled (is_starred f) deeper inner) w own f Usual ps ts i j
 
-  pub the_parts : (own : Sort) (f : Form) (ps : List Piece) (ts : List Plain) (i j : Spot) → reads own ps ≡ true → fitting own f ps ≡ true → Off (follows own ps) w j.place
+  pub the_parts : (own : Sort) (f : Form) (ps : List Piece) (ts : List Plain) (i j : Spot) → reads own ps ≡ true → needs own ps ≤ bound (is_starred f) n → fitting own f ps ≡ true → Off (follows own ps) w j.place
       → Parts_match own f ps ts i j → GotParts (read body d (pieces_in (parts_of f part) own f Usual ps) (from w i)) top ts w j
-  the_parts own f ps ts i j R F o M = pieces_read body d top w (parts_spelled (is_starred f) deeper inner) (parts_by (is_starred f) part) (choose_begin (is_starred f) w deeper inner DB IB) (parts_read (is_starred f)) own f Usual ps ts i j R F o M
+  the_parts own f ps ts i j R N F o M = pieces_read body d top w (bound (is_starred f) n) (parts_spelled (is_starred f) deeper inner) (parts_by (is_starred f) part) (choose_begin (is_starred f) w deeper inner DB IB) (parts_read (is_starred f)) own f Usual ps ts i j R N F o M
 
   pub over_low : (b : Bool) (n : ℕ) → Levels b levels → n ≤ top → height_over b n ≤ top
   over_low true n l low = let k = room l in omega (arith, low, k.1)
@@ -94,23 +102,23 @@ module _ (body : Body) (d top : ℕ) (w : List Shape) (levels : Type 0) (room : 
     reads = ap (λ o. and_then o (λ g j. Ok (node f start j.at.place (joined done g), j))) G.reads;
   }
 
-  pub whole_read : (own : Sort) (f : Form) (ts : List Plain) (i j : Spot) → Levels (is_starred f) levels → reads own (pieces f) ≡ true → fitting own f (pieces f) ≡ true → Off (follows own (pieces f)) w j.place
+  pub whole_read : (own : Sort) (f : Form) (ts : List Plain) (i j : Spot) → Levels (is_starred f) levels → reads own (pieces f) ≡ true → needs own (pieces f) ≤ bound (is_starred f) n → fitting own f (pieces f) ≡ true → Off (follows own (pieces f)) w j.place
       → Parts_match own f (pieces f) ts i j → Got (read body d (whole part own f) (from w i)) top (forests.node f (spanned i.place j.place) ts) w j
   unfolding whole
-  whole_read own f ts i j l R F o M = same_got top w _ (forests.node f (spanned i.place j.place) ([] ++ ts)) j _ _
+  whole_read own f ts i j l R N F o M = same_got top w _ (forests.node f (spanned i.place j.place) ([] ++ ts)) j _ _
       (charged_read (is_starred f) (completed (parts_of f part) own f i.place nothing (pieces f)) (from w i) l) refl
-      (complete_node own f i.place nothing (pieces f) ts i j l (omega arith) (the_parts own f (pieces f) ts i j R F o M))
+      (complete_node own f i.place nothing (pieces f) ts i j l (omega arith) (the_parts own f (pieces f) ts i j R N F o M))
 
-  pub node_read : (due : Sort) (least : ℕ) (t : Plain) (i j : Spot) → has_row due ≡ true → is_leveled due ≡ false → is_typed_list t.form ≡ false → IsNode levels deeper inner w due least t i j → Off (goes_on due least) w j.place
+  pub node_read : (due : Sort) (least : ℕ) (t : Plain) (i j : Spot) → has_row due ≡ true → is_leveled due ≡ false → is_typed_list t.form ≡ false → need due ≤ n + 1 → IsNode levels deeper inner w due least t i j → Off (goes_on due least) w j.place
       → Got (read body d (whole part due t.form) (from w i)) top t w j
-  node_read due least t i j h l y N o = let F = fits_of due t.form h l y N.may in
+  node_read due least t i j h l y low N o = let F = fits_of due t.form h l y N.may in
       same_got top w t (forests.node t.form (spanned i.place j.place) N.parts) j _ _ refl N.value
-      (whole_read due t.form N.parts i j N.left F.reads F.fits (off_within (follows due (pieces t.form)) (goes_on due 0) w j.place F.ends (subst (λ a. Off a w j.place) (one_set due least h l) o)) N.matches)
+      (whole_read due t.form N.parts i j N.left F.reads (F.few n low) F.fits (off_within (follows due (pieces t.form)) (goes_on due 0) w j.place F.ends (subst (λ a. Off a w j.place) (one_set due least h l) o)) N.matches)
 
   -- where only one form may stand
-  pub only_read : (due : Sort) (f : Form) (least : ℕ) (t : Plain) (i j : Spot) → has_row due ≡ true → is_leveled due ≡ false → is_typed_list f ≡ false → t.form ≡ f → IsNode levels deeper inner w due least t i j → Off (goes_on due least) w j.place
+  pub only_read : (due : Sort) (f : Form) (least : ℕ) (t : Plain) (i j : Spot) → has_row due ≡ true → is_leveled due ≡ false → is_typed_list f ≡ false → need due ≤ n + 1 → t.form ≡ f → IsNode levels deeper inner w due least t i j → Off (goes_on due least) w j.place
       → Got (read body d (whole part due f) (from w i)) top t w j
-  only_read due f least t i j h l y e N o = same_got top w t t j _ _ (ap (λ f. read body d (whole part due f) (from w i)) (sym e)) refl (node_read due least t i j h l (ap is_typed_list e ∙ y) N o)
+  only_read due f least t i j h l y low e N o = same_got top w t t j _ _ (ap (λ f. read body d (whole part due f) (from w i)) (sym e)) refl (node_read due least t i j h l (ap is_typed_list e ∙ y) low N o)
 
 -- ---- words and literals
 

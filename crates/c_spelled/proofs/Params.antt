@@ -38,11 +38,11 @@ use Rattle.c_reader.specs.Tokens.{Spot, spot, step, turned, raw_at, seen_at, cla
 use Rattle.c_reader.specs.Readers.{Input, Reader, Found, Outcome, Body, Refuse, Give, Ask, read, and_then, pick, only, choose, token, ◌>>=◌, ◌>>◌}
 use Rattle.c_reader.proofs.Local.{from}
 use Rattle.c_reader.proofs.Sets.{both, either, not_true, contrary, itself, single, only_single, has_left, has_right, apart_has}
-use Rattle.c_syntax.specs.Allowed.{may_stand, has_name}
+use Rattle.c_syntax.specs.Allowed.{may_stand, has_name, places}
 use Rattle.c_syntax.specs.Reading.{Listed, Parts, Gathered, nothing, one, node, called, is_starred, spanned, the_list, list_from, Usual, is_class, gathered, gathered_by, many}
 use Rattle.c_syntax.specs.Grammar.{sign, is_sign, is_value, is_type_word, begins, whole, spec_of, specifier_by, specifier, typed, parameters, initializer, block}
 use Rattle.c_syntax.specs.Spells.{Spelling, Is, IsGroup, Matches, Levels, parts_spelled, IsNode, may_be, may_list, Chain}
-use Rattle.c_spelled.specs.Fitting.{parted, is_read, opens, follows, fitting, reads, is_leveled, is_typed_list, between_set}
+use Rattle.c_spelled.specs.Fitting.{parted, is_read, opens, follows, fitting, reads, is_leveled, is_typed_list, need, between_set}
 use Rattle.c_spelled.proofs.Off.{Off, on_here, off}
 use Rattle.c_spelled.proofs.Opens.{Begun, chain_begins}
 use Rattle.c_spelled.proofs.Begins.{AllBegin, node_begins}
@@ -78,10 +78,10 @@ no_refusal false h e = refl
 no_value : (v h : Bool) → v ≡ false → (v && not h) ≡ false
 no_value v h e = ap (λ v. v && not h) e
 
-module _ (body : Body) (d top : ℕ) (w : List Shape) (levels : Type 0) (room : Room levels d top) (deeper inner : Spelling) (part : Parts)
-    (DB : AllBegin w deeper) (IB : AllBegin w inner) (DE : AllRead body d top w deeper called) (IE : AllRead body d top w inner part) where
+module _ (body : Body) (d top : ℕ) (w : List Shape) (levels : Type 0) (room : Room levels d top) (n : ℕ) (deeper inner : Spelling) (part : Parts)
+    (DB : AllBegin w deeper) (IB : AllBegin w inner) (DE : AllRead body d top w places deeper called) (IE : AllRead body d top w n inner part) (low : need s.Params ≤ n + 1) where
   abbrev As : Form → Plain → Spot → Spot → Type 0
-  As f t i j = NodeAs body d top w levels room deeper inner part DB IB DE IE s.Params f t i j
+  As f t i j = NodeAs body d top w levels room n deeper inner part DB IB DE IE s.Params f t i j
 
   choose_at : (b c : Bool) (r q : Reader Found) (i : Spot) → b ≡ c → read body d (choose b r q) (from w i) ≡ read body d (choose c r q) (from w i)
   choose_at b c r q i e = ap (λ b. read body d (choose b r q) (from w i)) e
@@ -95,10 +95,10 @@ module _ (body : Body) (d top : ℕ) (w : List Shape) (levels : Type 0) (room : 
       ∙ choose_at (is_value (seen_at w i) && not (has_name i.state)) false Refuse ids i f
 
   ids_read : (least : ℕ) (t : Plain) (i j : Spot) → may_list i.state t ≡ true → t.form ≡ form.Params params.Ids → IsNode levels deeper inner w s.Params least t i j → Off (goes_on s.Params 0) w j.place → Got (read body d (parameters part) (from w i)) top t w j
-  ids_read least t i j L e N o = let A : As (form.Params params.Ids) t i j = node_as body d top w levels room deeper inner part DB IB DE IE s.Params (form.Params params.Ids) least t i j e N in
+  ids_read least t i j L e N o = let A : As (form.Params params.Ids) t i j = node_as body d top w levels room n deeper inner part DB IB DE IE s.Params (form.Params params.Ids) least t i j e N in
       let M = A.matches in
       let us : List Plain = M.is_first.0 in
-      let G = as_read body d top w levels room deeper inner part DB IB DE IE s.Params (form.Params params.Ids) t i j (fits_of s.Params (form.Params params.Ids) refl refl refl refl) A o in
+      let G = as_read body d top w levels room n deeper inner part DB IB DE IE s.Params (form.Params params.Ids) t i j (fits_of s.Params (form.Params params.Ids) refl refl refl refl) low A o in
       elim (M.is_first.1.1) [
         | inl X ↦ let same : i ≡ j = X.1.1 ∙ M.are_others.1 in
             let out : Off (goes_on s.Params 0) w i.place = subst (λ (k : Spot). Off (goes_on s.Params 0) w k.place) (sym same) o in
@@ -123,7 +123,7 @@ module _ (body : Body) (d top : ℕ) (w : List Shape) (levels : Type 0) (room : 
       → (is_class (sign punct.Comma) (seen_at w k) ≡ false → GotAll (read body d (gathered_by (Ended (sign punct.Comma) (sign punct.Ellipsis)) s.Param (part s.Param 0) Usual i.place) (from w i)) top us false k.place w k)
       × (Is w (sign punct.Comma) k → Is w (sign punct.Ellipsis) (step k) → GotAll (read body d (gathered_by (Ended (sign punct.Comma) (sign punct.Ellipsis)) s.Param (part s.Param 0) Usual i.place) (from w i)) top us true k.place w (step k))
   unfolding many
-  the_elements us i k n C o = ended_read body d top w s.Param 0 (inner s.Param 0) (part s.Param 0) (λ t i j p. elim (IB s.Param 0 t i j refl p) [ | inl b ↦ b | inr x ↦ absurd (cc x.0) ]) (λ t i j p o. IE s.Param 0 t i j refl p o)
+  the_elements us i k n C o = ended_read body d top w s.Param 0 (inner s.Param 0) (part s.Param 0) (λ t i j p. elim (IB s.Param 0 t i j refl p) [ | inl b ↦ b | inr x ↦ absurd (cc x.0) ]) (λ t i j p o. IE s.Param 0 t i j refl (omega (arith, low)) p o)
       (sign punct.Comma) (sign punct.Ellipsis) refl refl us i.place i k (n, C) o
 
   begins_spec : (us : List Plain) (i k : Spot) (n : ℕ) → Chain (inner s.Param 0) w (Some (sign punct.Comma)) n us i k → has (starts s.Spec) (class_at w i) ≡ true
@@ -142,7 +142,7 @@ module _ (body : Body) (d top : ℕ) (w : List Shape) (levels : Type 0) (room : 
       (Ask (λ j. Give (node (form.Params params.Typed) i.place j.place (one (list_from g.0 g.1)))))) j)) f
 
   typed_read : (least : ℕ) (t : Plain) (i j : Spot) → t.form ≡ form.Params params.Typed → IsNode levels deeper inner w s.Params least t i j → Off (goes_on s.Params 0) w j.place → Got (read body d (parameters part) (from w i)) top t w j
-  typed_read least t i j e N o = let A : As (form.Params params.Typed) t i j = node_as body d top w levels room deeper inner part DB IB DE IE s.Params (form.Params params.Typed) least t i j e N in
+  typed_read least t i j e N o = let A : As (form.Params params.Typed) t i j = node_as body d top w levels room n deeper inner part DB IB DE IE s.Params (form.Params params.Typed) least t i j e N in
       let M = A.matches in
       let us : List Plain = M.is_first.0 in
       let C = M.is_first.1.1 in
@@ -164,7 +164,7 @@ module _ (body : Body) (d top : ℕ) (w : List Shape) (levels : Type 0) (room : 
   ellipsis false g k e = absurd (cc e)
 
   more_read : (least : ℕ) (t : Plain) (i j : Spot) → t.form ≡ form.Params params.TypedAndMore → IsNode levels deeper inner w s.Params least t i j → Got (read body d (parameters part) (from w i)) top t w j
-  more_read least t i j e N = let A : As (form.Params params.TypedAndMore) t i j = node_as body d top w levels room deeper inner part DB IB DE IE s.Params (form.Params params.TypedAndMore) least t i j e N in
+  more_read least t i j e N = let A : As (form.Params params.TypedAndMore) t i j = node_as body d top w levels room n deeper inner part DB IB DE IE s.Params (form.Params params.TypedAndMore) least t i j e N in
       let M = A.matches in
       let us : List Plain = M.is_first.0 in
       let C = M.is_first.1.1 in

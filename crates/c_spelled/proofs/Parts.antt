@@ -38,11 +38,11 @@ use Rattle.c_reader.specs.Tokens.{Spot, spot, step, turned, raw_at, seen_at, cla
 use Rattle.c_reader.specs.Readers.{Input, Reader, Found, Outcome, Body, Refuse, Give, Ask, read, and_then, choose, token, ◌>>=◌, ◌>>◌}
 use Rattle.c_reader.proofs.Local.{from}
 use Rattle.c_reader.proofs.Sets.{both, either, not_true, contrary, itself, single, only_single, has_left, has_right}
-use Rattle.c_syntax.specs.Allowed.{may_stand, has_name}
+use Rattle.c_syntax.specs.Allowed.{may_stand, has_name, places}
 use Rattle.c_syntax.specs.Reading.{Listed, Parts, Gathered, nothing, one, node, called, is_starred, spanned, the_list, list_from, Usual, is_class, gathered, gathered_by, many}
 use Rattle.c_syntax.specs.Grammar.{sign, is_sign, is_value, is_type_word, begins, whole, spec_of, specifier_by, specifier, typed, parameters, initializer, block}
 use Rattle.c_syntax.specs.Spells.{Spelling, Is, IsGroup, Matches, Levels, parts_spelled, IsNode, may_be, may_list, Chain}
-use Rattle.c_spelled.specs.Fitting.{parted, is_read, opens, follows, fitting, reads, is_leveled, is_typed_list, between_set}
+use Rattle.c_spelled.specs.Fitting.{parted, is_read, opens, follows, fitting, reads, is_leveled, is_typed_list, need, needs, bound, between_set}
 use Rattle.c_spelled.proofs.Off.{Off, on_here, off}
 use Rattle.c_spelled.proofs.Opens.{Begun, chain_begins}
 use Rattle.c_spelled.proofs.Begins.{AllBegin, node_begins}
@@ -93,8 +93,8 @@ module _ (w : List Shape) (P : Spelling) (due : Sort) (B : (x : Shape) → begun
   spec_seen (form.Spec spec.EnumOf) ts i j b M = by_key spec.EnumOf key.Enum i (is_key i.state (raw_at w i.place) key.Enum M.0) refl refl
   spec_seen _ ts i j b M = absurd (cc b)
 
-module _ (body : Body) (d top : ℕ) (w : List Shape) (levels : Type 0) (room : Room levels d top) (deeper inner : Spelling) (part : Parts)
-    (DB : AllBegin w deeper) (IB : AllBegin w inner) (DE : AllRead body d top w deeper called) (IE : AllRead body d top w inner part) where
+module _ (body : Body) (d top : ℕ) (w : List Shape) (levels : Type 0) (room : Room levels d top) (n : ℕ) (deeper inner : Spelling) (part : Parts)
+    (DB : AllBegin w deeper) (IB : AllBegin w inner) (DE : AllRead body d top w places deeper called) (IE : AllRead body d top w n inner part) where
   -- a node of a form, whatever sort it stands for
   pub record NodeAs (own : Sort) (f : Form) (t : Plain) (i j : Spot) : Type 0 where
     pub parts : List Plain
@@ -105,13 +105,13 @@ module _ (body : Body) (d top : ℕ) (w : List Shape) (levels : Type 0) (room : 
   pub node_as : (due : Sort) (f : Form) (least : ℕ) (t : Plain) (i j : Spot) → t.form ≡ f → IsNode levels deeper inner w due least t i j → NodeAs due f t i j
   node_as due f least t i j e N = subst (λ f. NodeAs due f t i j) e (record { parts = N.parts; value = N.value; left = N.left; matches = N.matches })
 
-  pub as_read : (own : Sort) (f : Form) (t : Plain) (i j : Spot) → Fits own f → NodeAs own f t i j → Off (goes_on own 0) w j.place → Got (read body d (whole part own f) (from w i)) top t w j
-  as_read own f t i j F N o = same_got top w t (forests.node f (spanned i.place j.place) N.parts) j _ _ refl N.value
-      (whole_read body d top w levels room deeper inner part DB IB DE IE own f N.parts i j N.left F.reads F.fits (off_within (follows own (pieces f)) (goes_on own 0) w j.place F.ends o) N.matches)
+  pub as_read : (own : Sort) (f : Form) (t : Plain) (i j : Spot) → Fits own f → need own ≤ n + 1 → NodeAs own f t i j → Off (goes_on own 0) w j.place → Got (read body d (whole part own f) (from w i)) top t w j
+  as_read own f t i j F low N o = same_got top w t (forests.node f (spanned i.place j.place) N.parts) j _ _ refl N.value
+      (whole_read body d top w levels room n deeper inner part DB IB DE IE own f N.parts i j N.left F.reads (F.few n low) F.fits (off_within (follows own (pieces f)) (goes_on own 0) w j.place F.ends o) N.matches)
 
-  abbrev nodes : (due : Sort) (least : ℕ) (t : Plain) (i j : Spot) → has_row due ≡ true → is_leveled due ≡ false → is_typed_list t.form ≡ false → IsNode levels deeper inner w due least t i j → Off (goes_on due least) w j.place
+  abbrev nodes : (due : Sort) (least : ℕ) (t : Plain) (i j : Spot) → has_row due ≡ true → is_leveled due ≡ false → is_typed_list t.form ≡ false → need due ≤ n + 1 → IsNode levels deeper inner w due least t i j → Off (goes_on due least) w j.place
       → Got (read body d (whole part due t.form) (from w i)) top t w j
-  nodes = node_read body d top w levels room deeper inner part DB IB DE IE
+  nodes = node_read body d top w levels room n deeper inner part DB IB DE IE
 
   no_list : (f : Form) → is_spec f ≡ true → is_typed_list f ≡ false
   no_list (form.Spec f) e = refl
@@ -120,10 +120,10 @@ module _ (body : Body) (d top : ℕ) (w : List Shape) (levels : Type 0) (room : 
   choose_at : (b c : Bool) (r q : Reader Found) (i : Spot) → b ≡ c → read body d (choose b r q) (from w i) ≡ read body d (choose c r q) (from w i)
   choose_at b c r q i e = ap (λ b. read body d (choose b r q) (from w i)) e
 
-  spec_read : (due : Sort) → ((x : Shape) → begun due x ≡ map_option form.Spec (spec_of_shape x)) → ((f : Form) → may_be due f ≡ true → is_spec f ≡ true) → has_row due ≡ true → is_leveled due ≡ false → may_be_empty due ≡ false
+  spec_read : (due : Sort) → ((x : Shape) → begun due x ≡ map_option form.Spec (spec_of_shape x)) → ((f : Form) → may_be due f ≡ true → is_spec f ≡ true) → has_row due ≡ true → is_leveled due ≡ false → may_be_empty due ≡ false → need due ≤ n + 1
       → (least : ℕ) (t : Plain) (i j : Spot) → may_stand i.state t.form ≡ true → IsNode levels deeper inner w due least t i j → Off (goes_on due least) w j.place → Got (read body d (specifier part due) (from w i)) top t w j
   unfolding specifier
-  spec_read due B only h l e least t i j stands N o =
+  spec_read due B only h l e low least t i j stands N o =
       let begun_so : begins due (seen_at w i) ≡ true = elim (node_begins levels deeper inner w DB IB due least t i j h N) [
         | inl b ↦ b.0
         | inr x ↦ absurd (contrary (may_be_empty due) x.0 e)
@@ -132,13 +132,13 @@ module _ (body : Body) (d top : ℕ) (w : List Shape) (levels : Type 0) (room : 
       same_got top w t t j _ _
         (choose_at (begins due (seen_at w i)) true (specifier_by part due i.state (spec_of due (is_type_word (seen_at w i)) (seen_at w i))) Refuse i begun_so
         ∙ ap (λ f. read body d (specifier_by part due i.state f) (from w i)) found ∙ choose_at (may_stand i.state t.form) true (whole part due t.form) Refuse i stands) refl
-        (nodes due least t i j h l (no_list t.form (only t.form N.may)) N o)
+        (nodes due least t i j h l (no_list t.form (only t.form N.may)) low N o)
 
   pub any_spec_read : (least : ℕ) (t : Plain) (i j : Spot) → may_stand i.state t.form ≡ true → IsNode levels deeper inner w s.Spec least t i j → Off (goes_on s.Spec least) w j.place → Got (read body d (specifier part s.Spec) (from w i)) top t w j
-  any_spec_read = spec_read s.Spec (λ x. refl) spec_is refl refl refl
+  any_spec_read = spec_read s.Spec (λ x. refl) spec_is refl refl refl (omega arith)
 
   pub plain_spec_read : (least : ℕ) (t : Plain) (i j : Spot) → may_stand i.state t.form ≡ true → IsNode levels deeper inner w s.PlainSpec least t i j → Off (goes_on s.PlainSpec least) w j.place → Got (read body d (specifier part s.PlainSpec) (from w i)) top t w j
-  plain_spec_read = spec_read s.PlainSpec (λ x. refl) plain_spec_is refl refl refl
+  plain_spec_read = spec_read s.PlainSpec (λ x. refl) plain_spec_is refl refl refl (omega arith)
 
   qualifier_stands : (state : State) (f : Form) → may_be s.Qualifier f ≡ true → may_stand state f ≡ true
   qualifier_stands state (form.Spec (spec.Qualifier q)) m = refl
@@ -151,26 +151,26 @@ module _ (body : Body) (d top : ℕ) (w : List Shape) (levels : Type 0) (room : 
   qualifier_stands state _ m = absurd (cc m)
 
   pub qualifier_read : (least : ℕ) (t : Plain) (i j : Spot) → IsNode levels deeper inner w s.Qualifier least t i j → Off (goes_on s.Qualifier least) w j.place → Got (read body d (specifier part s.Qualifier) (from w i)) top t w j
-  qualifier_read least t i j N o = spec_read s.Qualifier (λ x. refl) qualifier_is refl refl refl least t i j (qualifier_stands i.state t.form N.may) N o
+  qualifier_read least t i j N o = spec_read s.Qualifier (λ x. refl) qualifier_is refl refl refl (omega arith) least t i j (qualifier_stands i.state t.form N.may) N o
 
   -- ---- blocks and initializers
 
-  pub block_read : (least : ℕ) (t : Plain) (i j : Spot) → IsNode levels deeper inner w s.Block least t i j → Got (read body d (block part) (from w i)) top t w j
-  block_read least t i j N = let M = node_as s.Block (form.Stmt stmt.Block) least t i j (block_form t.form N.may) N in
+  pub block_read : need s.Block ≤ n + 1 → (least : ℕ) (t : Plain) (i j : Spot) → IsNode levels deeper inner w s.Block least t i j → Got (read body d (block part) (from w i)) top t w j
+  block_read low least t i j N = let M = node_as s.Block (form.Stmt stmt.Block) least t i j (block_form t.form N.may) N in
       let A : NodeAs s.Stmt (form.Stmt stmt.Block) t i j = record { parts = M.parts; value = M.value; left = M.left; matches = M.matches } in
       same_got top w t t j _ _ (choose_at (is_sign punct.LeftBrace (seen_at w i)) true (whole part s.Stmt (form.Stmt stmt.Block)) Refuse i (is_it w (class.Punct punct.LeftBrace) i M.matches.0)) refl
-      (as_read s.Stmt (form.Stmt stmt.Block) t i j (fits_of s.Stmt (form.Stmt stmt.Block) refl refl refl refl) A (λ s. refl))
+      (as_read s.Stmt (form.Stmt stmt.Block) t i j (fits_of s.Stmt (form.Stmt stmt.Block) refl refl refl refl) low A (λ s. refl))
 
-  pub init_read : (least : ℕ) (t : Plain) (i j : Spot) → IsNode levels deeper inner w s.Init least t i j → Off (goes_on s.Init least) w j.place → Got (read body d (initializer part) (from w i)) top t w j
-  init_read least t i j N o = elim (init_is t.form N.may) [
+  pub init_read : need s.Init ≤ n + 1 → (least : ℕ) (t : Plain) (i j : Spot) → IsNode levels deeper inner w s.Init least t i j → Off (goes_on s.Init least) w j.place → Got (read body d (initializer part) (from w i)) top t w j
+  init_read low least t i j N o = elim (init_is t.form N.may) [
     | inl e ↦ let A = node_as s.Init (form.Init init.One) least t i j e N in
         let brace : Off (class_number (class.Punct punct.LeftBrace) ∷ []) w i.place = elim (IB s.Exp 2 A.matches.first i A.matches.place refl A.matches.is_first) [
           | inl b ↦ off (starts s.Exp) (class_number (class.Punct punct.LeftBrace) ∷ []) w i.place refl (on_here (starts s.Exp) w i b.0)
           | inr x ↦ absurd (cc x.0)
         ] in
         same_got top w t t j _ _ (choose_at (is_sign punct.LeftBrace (seen_at w i)) false (whole part s.Init (form.Init init.Braces)) (whole part s.Init (form.Init init.One)) i (is_not w (class.Punct punct.LeftBrace) i brace)) refl
-        (as_read s.Init (form.Init init.One) t i j (fits_of s.Init (form.Init init.One) refl refl refl refl) A o)
+        (as_read s.Init (form.Init init.One) t i j (fits_of s.Init (form.Init init.One) refl refl refl refl) low A o)
     | inr e ↦ let A = node_as s.Init (form.Init init.Braces) least t i j e N in
         same_got top w t t j _ _ (choose_at (is_sign punct.LeftBrace (seen_at w i)) true (whole part s.Init (form.Init init.Braces)) (whole part s.Init (form.Init init.One)) i (is_it w (class.Punct punct.LeftBrace) i A.matches.0)) refl
-        (as_read s.Init (form.Init init.Braces) t i j (fits_of s.Init (form.Init init.Braces) refl refl refl refl) A o)
+        (as_read s.Init (form.Init init.Braces) t i j (fits_of s.Init (form.Init init.Braces) refl refl refl refl) low A o)
   ]

@@ -1,5 +1,5 @@
 -- What the pieces of a row must meet, so that what spells them is read. It is computed.
-use Rattle.std.specs.Prelude.{ℕ, Bool, true, false, not, ◌&&◌, ◌||◌, nat_eq, nat_lt, List, [], ◌∷◌, ◌++◌, Option, Some, None, if◌then◌else◌}
+use Rattle.std.specs.Prelude.{ℕ, ◌+◌, max, Bool, true, false, not, ◌&&◌, ◌||◌, nat_eq, nat_lt, List, [], ◌∷◌, ◌++◌, Option, Some, None, if◌then◌else◌}
 use Rattle.c_tokens.specs.declared.class.Class.{Class}
 use Rattle.c_tokens.specs.declared.class.Class.TheVariants as class
 use Rattle.c_tokens.specs.ClassNumbers.{class_number}
@@ -19,7 +19,8 @@ use Rattle.c_tokens.specs.declared.token.Punct.{Punct}
 use Rattle.c_syntax.specs.Grammar.{left_level}
 use Rattle.c_forms.specs.Sets.{Classes, has, within, apart, given, starts, element_starts, goes_on, goes_on_with, may_be_empty, is_optional, held_class, type_word, all_puncts}
 use Rattle.c_reader.specs.States.{word_class}
-use Rattle.c_syntax.specs.Reading.{Before, Usual, Missing, is_missing, before_by, inside, is_absent, spanned}
+use Rattle.c_syntax.specs.Reading.{Before, Usual, Missing, is_missing, before_by, inside, is_absent, is_starred, spanned}
+use Rattle.c_syntax.specs.Allowed.{places}
 
 abbrev pub value_word : ℕ
 value_word = word_class false
@@ -192,6 +193,59 @@ fitting own f (One due least ∷ ps) = parted (opens own f ps) (goes_on (inside 
 fitting own f (Group r due least ∷ ps) = group_fits own f r due least ps && fitting own f ps
 fitting own f (_ ∷ ps) = false
 
+-- ---- how deep nodes that do not count for the height lie in one another
+
+-- the most of a sort, itself included
+abbrev pub need : Sort → ℕ
+need s.Literal = 1
+need s.DeclaredId = 1
+need s.Id = 1
+need s.ParameterId = 1
+need s.EnumeratorId = 1
+need s.Spec = 1
+need s.PlainSpec = 1
+need s.Qualifier = 1
+need s.Exp = 2
+need s.Declarator = 2
+need s.AbstractDeclarator = 2
+need s.ParamDeclarator = 2
+need s.MemberName = 2
+need s.Init = 3
+need s.Initializer = 4
+need s.InitDeclarator = 5
+need s.Decl = 6
+need s.Item = 7
+need s.BlockItem = 6
+need s.Stmt = 3
+need s.Block = 3
+need s.ElsePart = 4
+need s.MemberDeclarator = 4
+need s.Width = 3
+need s.Member = 5
+need s.Members = 6
+need s.EnumeratorValue = 3
+need s.Enumerator = 4
+need s.Enumerators = 5
+need s.Params = 4
+need s.Param = 3
+need s.TypeName = 3
+need _ = 0
+
+-- the most of the parts
+abbrev pub needs : Sort → List Piece → ℕ
+needs own [] = 0
+needs own (One due least ∷ ps) = max (need (inside own due)) (needs own ps)
+needs own (Group r due least ∷ ps) = max (need due) (needs own ps)
+needs own (p ∷ ps) = needs own ps
+
+-- as many may lie in a part, where so many may lie in one that does not count
+abbrev pub bound : Bool → ℕ → ℕ
+bound true n = places
+bound false n = n
+
+abbrev pub needs_so : Sort → Form → Bool
+needs_so due f = if is_starred f then nat_lt (needs due (pieces f)) (places + 1) else nat_lt (needs due (pieces f)) (need due)
+
 -- ---- rows
 
 abbrev pub is_leveled : Sort → Bool
@@ -224,7 +278,7 @@ fits_so due f = fitting due f (pieces f) && within (follows due (pieces f)) (goe
 
 -- the row of a form that is read as a sort
 abbrev pub row_fits : Sort → Form → Bool
-row_fits due f = begins_so due f && (is_leveled due || (is_typed_list f || fits_so due f))
+row_fits due f = begins_so due f && (is_leveled due || (is_typed_list f || (fits_so due f && needs_so due f)))
 
 -- ---- levels
 
