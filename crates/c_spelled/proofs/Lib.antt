@@ -11,3 +11,4 @@ mod Nodes
 mod Parts
 mod Params
 mod Levels
+mod Climb

@@ -134,11 +134,11 @@ module _ (body : Body) (d top : ℕ) (w : List Shape) (levels : Type 0) (room : 
         ∙ ap (λ f. read body d (specifier_by part due i.state f) (from w i)) found ∙ choose_at (may_stand i.state t.form) true (whole part due t.form) Refuse i stands) refl
         (nodes due least t i j h l (no_list t.form (only t.form N.may)) low N o)
 
-  pub any_spec_read : (least : ℕ) (t : Plain) (i j : Spot) → may_stand i.state t.form ≡ true → IsNode levels deeper inner w s.Spec least t i j → Off (goes_on s.Spec least) w j.place → Got (read body d (specifier part s.Spec) (from w i)) top t w j
-  any_spec_read = spec_read s.Spec (λ x. refl) spec_is refl refl refl (omega arith)
+  pub any_spec_read : need s.Spec ≤ n + 1 → (least : ℕ) (t : Plain) (i j : Spot) → may_stand i.state t.form ≡ true → IsNode levels deeper inner w s.Spec least t i j → Off (goes_on s.Spec least) w j.place → Got (read body d (specifier part s.Spec) (from w i)) top t w j
+  any_spec_read low = spec_read s.Spec (λ x. refl) spec_is refl refl refl low
 
-  pub plain_spec_read : (least : ℕ) (t : Plain) (i j : Spot) → may_stand i.state t.form ≡ true → IsNode levels deeper inner w s.PlainSpec least t i j → Off (goes_on s.PlainSpec least) w j.place → Got (read body d (specifier part s.PlainSpec) (from w i)) top t w j
-  plain_spec_read = spec_read s.PlainSpec (λ x. refl) plain_spec_is refl refl refl (omega arith)
+  pub plain_spec_read : need s.PlainSpec ≤ n + 1 → (least : ℕ) (t : Plain) (i j : Spot) → may_stand i.state t.form ≡ true → IsNode levels deeper inner w s.PlainSpec least t i j → Off (goes_on s.PlainSpec least) w j.place → Got (read body d (specifier part s.PlainSpec) (from w i)) top t w j
+  plain_spec_read low = spec_read s.PlainSpec (λ x. refl) plain_spec_is refl refl refl low
 
   qualifier_stands : (state : State) (f : Form) → may_be s.Qualifier f ≡ true → may_stand state f ≡ true
   qualifier_stands state (form.Spec (spec.Qualifier q)) m = refl
@@ -150,8 +150,8 @@ module _ (body : Body) (d top : ℕ) (w : List Shape) (levels : Type 0) (room : 
   qualifier_stands state (form.Group group.List) m = absurd (cc m)
   qualifier_stands state _ m = absurd (cc m)
 
-  pub qualifier_read : (least : ℕ) (t : Plain) (i j : Spot) → IsNode levels deeper inner w s.Qualifier least t i j → Off (goes_on s.Qualifier least) w j.place → Got (read body d (specifier part s.Qualifier) (from w i)) top t w j
-  qualifier_read least t i j N o = spec_read s.Qualifier (λ x. refl) qualifier_is refl refl refl (omega arith) least t i j (qualifier_stands i.state t.form N.may) N o
+  pub qualifier_read : need s.Qualifier ≤ n + 1 → (least : ℕ) (t : Plain) (i j : Spot) → IsNode levels deeper inner w s.Qualifier least t i j → Off (goes_on s.Qualifier least) w j.place → Got (read body d (specifier part s.Qualifier) (from w i)) top t w j
+  qualifier_read low least t i j N o = spec_read s.Qualifier (λ x. refl) qualifier_is refl refl refl low least t i j (qualifier_stands i.state t.form N.may) N o
 
   -- ---- blocks and initializers
 
