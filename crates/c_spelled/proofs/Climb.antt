@@ -93,8 +93,8 @@ module _ (body : Body) (d : ℕ) (w : List Shape) where
     pub turn_off : (y : Standing) (k : Spot) → is_tail due least k.state y (continued_by due (raw_at w k.place)) ≡ false → turns y (from w k) ≡ Ok (Last y, from w k)
     turn_off y k e = ap (λ b. chosen y k b (continued_by due (raw_at w k.place))) e
 
-    -- What begins comes to a tree, which may go on.
-    pub record Rises (head : Reader Standing) (most : ℕ) (i : Spot) (t : Plain) (m : ℕ) (j : Spot) : Type 0 where
+    -- What begins comes to a tree, which may go on; Q is known of the first part.
+    pub record Rises (Q : Standing → Spot → Type 0) (head : Reader Standing) (most : ℕ) (i : Spot) (t : Plain) (m : ℕ) (j : Spot) : Type 0 where
       pub level : ℕ
       pub tight : Tight m level
       pub height : ℕ
@@ -103,6 +103,7 @@ module _ (body : Body) (d : ℕ) (w : List Shape) where
       pub place : Spot
       pub start : read body d head (from w i) ≡ Ok (first, from w place)
       pub comes : Comes w turns first place (stand t height level) j
+      pub kept : Q first place
 
     by_shape : (y : Standing) (k : Spot) (f : Form) → is_leveled due ≡ true → Off (goes_on due least) w k.place → (x : Shape) → raw_at w k.place ≡ x → continued_by due x ≡ Some f → nat_lt (level f) least ≡ true
     by_shape y k f h o (shape.Punct p) e g = too_loose due least w k p f h o e g
@@ -113,29 +114,33 @@ module _ (body : Body) (d : ℕ) (w : List Shape) where
     no_tail y k h o (Some f) e = ap (λ b. not b && (not (nat_lt y.level (left_level (pieces f))) && may_follow due k.state y.found.tree f)) (by_shape y k f h o (raw_at w k.place) refl e)
 
     -- and does not, where what follows does not go on
-    pub finish : (head : Reader Standing) (top : ℕ) (i : Spot) (t : Plain) (m : ℕ) (j : Spot) → is_leveled due ≡ true → Rises head (top + 1) i t m j → Off (goes_on due least) w j.place
-        → Got (and_then (read body d head (from w i)) (λ y j. read body d (climb due least origin y) j)) top t w j
+    pub ends_at : (Q : Standing → Spot → Type 0) (head : Reader Standing) (most : ℕ) (i : Spot) (t : Plain) (m : ℕ) (j : Spot) → is_leveled due ≡ true → (R : Rises Q head most i t m j) → Off (goes_on due least) w j.place
+        → read body d (climb due least origin R.first) (from w R.place) ≡ Ok (record { tree = t; height = R.height }, from w j)
     unfolding climb
-    finish head top i t m j h R o = record {
+    ends_at Q head most i t m j h R o = ap (λ o. and_then o (λ z j. Ok (z.found, j))) (stop w turns R.first R.place (stand t R.height R.level) j (stand t R.height R.level) (from w j) R.comes
+        (turn_off (stand t R.height R.level) j (no_tail (stand t R.height R.level) j h o (continued_by due (raw_at w j.place)) refl)) (d + length w) (omega arith))
+
+    pub finish : (Q : Standing → Spot → Type 0) (head : Reader Standing) (top : ℕ) (i : Spot) (t : Plain) (m : ℕ) (j : Spot) → is_leveled due ≡ true → Rises Q head (top + 1) i t m j → Off (goes_on due least) w j.place
+        → Got (and_then (read body d head (from w i)) (λ y j. read body d (climb due least origin y) j)) top t w j
+    finish Q head top i t m j h R o = record {
       height = R.height;
       low = omega (arith, R.low);
-      reads = ap (λ o. and_then o (λ y j. read body d (climb due least origin y) j)) R.start
-          ∙ ap (λ o. and_then o (λ z j. Ok (z.found, j))) (stop w turns R.first R.place (stand t R.height R.level) j (stand t R.height R.level) (from w j) R.comes
-              (turn_off (stand t R.height R.level) j (no_tail (stand t R.height R.level) j h o (continued_by due (raw_at w j.place)) refl)) (d + length w) (omega arith));
+      reads = ap (λ o. and_then o (λ y j. read body d (climb due least origin y) j)) R.start ∙ ends_at Q head (top + 1) i t m j h R o;
     }
 
     -- the first part alone
-    pub begin : (head : Reader Standing) (most : ℕ) (i : Spot) (t : Plain) (m height level : ℕ) (j : Spot) → Tight m level → height < most → read body d head (from w i) ≡ Ok (stand t height level, from w j) → Rises head most i t m j
-    begin head most i t m height level j e low r = record { level = level; tight = e; height = height; low = low; first = stand t height level; place = j; start = r; comes = stay w turns (stand t height level) j }
+    pub begin : (Q : Standing → Spot → Type 0) (head : Reader Standing) (most : ℕ) (i : Spot) (t : Plain) (m height level : ℕ) (j : Spot) → Tight m level → height < most → read body d head (from w i) ≡ Ok (stand t height level, from w j) → Q (stand t height level) j
+        → Rises Q head most i t m j
+    begin Q head most i t m height level j e low r q = record { kept = q; level = level; tight = e; height = height; low = low; first = stand t height level; place = j; start = r; comes = stay w turns (stand t height level) j }
 
     -- an operator and what follows it
-    pub longer : (deep : Spelling) (top : ℕ) (DB : AllBegin w deep) (DE : AllRead body d top w places deep called) (head : Reader Standing) (i k j : Spot) (left : Plain) (others : List Plain) (f : Form) (m : ℕ) (rest : List Piece) (p : Punct)
-        → is_leveled due ≡ true → (0 < d) × (0 < top) → top ≤ d → Rises head top i left m k → m ≤ 17 → least ≤ level f
+    pub longer : (Q : Standing → Spot → Type 0) (deep : Spelling) (top : ℕ) (DB : AllBegin w deep) (DE : AllRead body d top w places deep called) (head : Reader Standing) (i k j : Spot) (left : Plain) (others : List Plain) (f : Form) (m : ℕ) (rest : List Piece) (p : Punct)
+        → is_leveled due ≡ true → (0 < d) × (0 < top) → top ≤ d → Rises Q head top i left m k → m ≤ 17 → least ≤ level f
         → raw_at w k.place ≡ shape.Punct p → continued due p ≡ Some f → left_level (pieces f) ≡ m → after_first (pieces f) ≡ rest → is_starred f ≡ true → may_follow due k.state left f ≡ true
         → operands_fit due f rest ≡ true → needs due rest ≤ places → Off (unapt due (level f)) w j.place → Matches deep w due f Usual rest others k j → k.place < j.place
-        → Rises head (top + 1) i (forests.node f (spanned origin j.place) (left ∷ others)) (level f) j
+        → Rises Q head (top + 1) i (forests.node f (spanned origin j.place) (left ∷ others)) (level f) j
     unfolding completed
-    longer deep top DB DE head i k j left others f m rest p h room under R few tight_f raw found left_is rest_is star follow F N o M ahead =
+    longer Q deep top DB DE head i k j left others f m rest p h room under R few tight_f raw found left_is rest_is star follow F N o M ahead =
         let fit = both (reads due rest) _ F in
         let fit' = both (fitting due f rest) _ fit.1 in
         let G : GotParts (read body d (pieces_in called due f Usual rest) (from w k)) top others w j = pieces_read body d top w places deep called DB DE due f Usual rest others k j fit.0 N fit'.0 (off_within (follows due rest) (unapt due (level f)) w j.place fit'.1 o) M in
@@ -159,5 +164,6 @@ module _ (body : Body) (d : ℕ) (w : List Shape) where
           first = R.first;
           place = R.place;
           start = R.start;
+          kept = R.kept;
           comes = go w turns R.first R.place y k x j R.comes (turn_on y x f k j (ap (continued_by due) raw ∙ found) on made) (in_list (class_number (class.Punct p) ∷ []) w k bracket (no_end p)) ahead;
         }

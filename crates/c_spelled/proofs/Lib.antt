@@ -12,3 +12,4 @@ mod Parts
 mod Params
 mod Levels
 mod Climb
+mod Exps
