@@ -4,7 +4,9 @@ use Rattle.c_forms.specs.declared.pieces.Sort.{Sort}
 use Rattle.c_forms.specs.declared.pieces.Sort.TheVariants as s
 use Rattle.c_forms.specs.declared.forms.Form.{Form}
 use Rattle.c_forms.specs.declared.forms.Form.TheVariants as form
+use Rattle.c_forms.specs.declared.forms.ExpForm.{ExpForm}
 use Rattle.c_forms.specs.declared.forms.ExpForm.TheVariants as exp
+use Rattle.c_forms.specs.declared.forms.DeclaratorForm.{DeclaratorForm}
 use Rattle.c_forms.specs.declared.forms.SpecForm.TheVariants as spec
 use Rattle.c_forms.specs.declared.forms.InitForm.TheVariants as init
 use Rattle.c_forms.specs.declared.forms.ParamsForm.TheVariants as params
@@ -206,3 +208,52 @@ params_is (form.Item item.Function) m = absurd (cc m)
 params_is (form.Template (template.Many k)) m = absurd (cc m)
 params_is (form.Group group.List) m = absurd (cc m)
 params_is _ m = absurd (cc m)
+
+pub exp_is : (f : Form) → may_be s.Exp f ≡ true → (g : ExpForm) × (f ≡ form.Exp g)
+exp_is (form.Exp g) m = (g, refl)
+exp_is (form.Spec (spec.Storage c)) m = absurd (cc m)
+exp_is (form.Stmt stmt.Block) m = absurd (cc m)
+exp_is (form.Item item.Function) m = absurd (cc m)
+exp_is (form.Template (template.Many k)) m = absurd (cc m)
+exp_is (form.Group group.List) m = absurd (cc m)
+exp_is _ m = absurd (cc m)
+
+pub declarator_is : (f : Form) → may_be s.Declarator f ≡ true → (g : DeclaratorForm) × (f ≡ form.Declarator g)
+declarator_is (form.Declarator g) m = (g, refl)
+declarator_is (form.Exp (exp.Int w)) m = absurd (cc m)
+declarator_is (form.Spec (spec.Storage c)) m = absurd (cc m)
+declarator_is (form.Stmt stmt.Block) m = absurd (cc m)
+declarator_is (form.Item item.Function) m = absurd (cc m)
+declarator_is (form.Template (template.Many k)) m = absurd (cc m)
+declarator_is (form.Group group.List) m = absurd (cc m)
+declarator_is _ m = absurd (cc m)
+
+pub abstract_is : (f : Form) → may_be s.AbstractDeclarator f ≡ true → (g : DeclaratorForm) × (f ≡ form.Declarator g)
+abstract_is (form.Declarator g) m = (g, refl)
+abstract_is (form.Exp (exp.Int w)) m = absurd (cc m)
+abstract_is (form.Spec (spec.Storage c)) m = absurd (cc m)
+abstract_is (form.Stmt stmt.Block) m = absurd (cc m)
+abstract_is (form.Item item.Function) m = absurd (cc m)
+abstract_is (form.Template (template.Many k)) m = absurd (cc m)
+abstract_is (form.Group group.List) m = absurd (cc m)
+abstract_is _ m = absurd (cc m)
+
+pub param_is : (f : Form) → may_be s.ParamDeclarator f ≡ true → (g : DeclaratorForm) × (f ≡ form.Declarator g)
+param_is (form.Declarator g) m = (g, refl)
+param_is (form.Exp (exp.Int w)) m = absurd (cc m)
+param_is (form.Spec (spec.Storage c)) m = absurd (cc m)
+param_is (form.Stmt stmt.Block) m = absurd (cc m)
+param_is (form.Item item.Function) m = absurd (cc m)
+param_is (form.Template (template.Many k)) m = absurd (cc m)
+param_is (form.Group group.List) m = absurd (cc m)
+param_is _ m = absurd (cc m)
+
+pub member_name_is : (f : Form) → may_be s.MemberName f ≡ true → (g : DeclaratorForm) × (f ≡ form.Declarator g)
+member_name_is (form.Declarator g) m = (g, refl)
+member_name_is (form.Exp (exp.Int w)) m = absurd (cc m)
+member_name_is (form.Spec (spec.Storage c)) m = absurd (cc m)
+member_name_is (form.Stmt stmt.Block) m = absurd (cc m)
+member_name_is (form.Item item.Function) m = absurd (cc m)
+member_name_is (form.Template (template.Many k)) m = absurd (cc m)
+member_name_is (form.Group group.List) m = absurd (cc m)
+member_name_is _ m = absurd (cc m)

@@ -18,20 +18,20 @@ use Rattle.c_forms.specs.Tokens.{continued}
 use Rattle.c_forms.specs.Sets.{Classes, has, within, goes_on}
 use Rattle.c_reader.specs.States.{State, class as class_in}
 use Rattle.c_reader.specs.Tokens.{Spot, spot, step, turned, raw_at, seen_at, class_at}
-use Rattle.c_reader.specs.Readers.{Input, Reader, Found, Outcome, Turn, More, Last, Body, Rule, Of, Give, Bind, read, below, and_then, choose, when, Refuse, ◌>>=◌}
+use Rattle.c_reader.specs.Readers.{Input, Reader, Found, Outcome, Turn, More, Last, Body, Rule, Of, Give, Bind, read, below, and_then, pick, only, token, choose, when, Refuse, ◌>>=◌, ◌>>◌}
 use Rattle.c_reader.proofs.Local.{from}
 use Rattle.c_reader.proofs.Loops.{split, Split}
 use Rattle.c_reader.proofs.Sets.{both, not_true, itself, single, within_lacks}
 use Rattle.c_syntax.specs.Allowed.{places}
-use Rattle.c_syntax.specs.Reading.{Listed, Parts, one, node, deeper, called, parts_by, is_starred, height_over, spanned, Usual, joined, pieces_in, completed}
-use Rattle.c_syntax.specs.Grammar.{Standing, standing, left_level, continued_by, may_follow, is_tail, tail_by, turn, climb, tight, after_first, after_part}
-use Rattle.c_syntax.specs.Spells.{Spelling, Matches}
+use Rattle.c_syntax.specs.Reading.{Listed, Parts, one, node, deeper, called, parts_by, is_starred, height_over, spanned, is_class, Usual, joined, pieces_in, completed}
+use Rattle.c_syntax.specs.Grammar.{Standing, standing, parenthesized, left_level, continued_by, may_follow, is_tail, tail_by, turn, climb, tight, after_first, after_part}
+use Rattle.c_syntax.specs.Spells.{Spelling, Is, Matches}
 use Rattle.c_spelled.specs.Fitting.{is_read, reads, follows, fitting, need, needs, is_leveled, unapt, operands_fit, source_end}
 use Rattle.c_spelled.proofs.Off.{Off, in_list}
 use Rattle.c_spelled.proofs.Begins.{AllBegin}
 use Rattle.c_spelled.proofs.Turns.{Comes, stay, go, stop}
 use Rattle.c_spelled.proofs.Groups.{Got}
-use Rattle.c_spelled.proofs.Pieces.{AllRead, GotParts, pieces_read}
+use Rattle.c_spelled.proofs.Pieces.{AllRead, GotParts, pieces_read, is_it}
 use Rattle.c_spelled.proofs.Nodes.{Room, off_within}
 use Rattle.c_spelled.proofs.Levels.{too_loose, not_less}
 
@@ -79,6 +79,20 @@ module _ (body : Body) (d : ℕ) (w : List Shape) where
 
   pub tight_at : (least : ℕ) (f : Form) (r : Reader Found) (top : ℕ) (t : Plain) (i j : Spot) (G : Got (read body d r (from w i)) top t w j) → least ≤ level f → read body d (tight least f r) (from w i) ≡ Ok (stand t G.height (level f), from w j)
   tight_at least f r top t i j G e = ap (λ b. read body d (choose b Refuse (standing (level f) r)) (from w i)) (not_less (level f) least e) ∙ stands_at (level f) r top t i j G
+
+  paren_at : (b : Bool) (x : Found) (k : Spot) → b ≡ true → and_then (pick (only b) (from w k)) (λ _ j. Ok (deeper x, j)) ≡ Ok (deeper x, from w (step k))
+  paren_at true x k e = refl
+  paren_at false x k e = absurd (cc e)
+
+  -- what is called in parentheses
+  pub in_parens : (due : Sort) (top : ℕ) (t : Plain) (i k j : Spot) → Lower (below body d (Of due 1) (from w i)) top t w k → Is w (class.Punct punct.RightParen) k → step k ≡ j → Got (read body d (parenthesized due) (from w i)) top t w j
+  in_parens due top t i k j L c e = record {
+    height = L.height + 1;
+    low = omega (arith, L.low);
+    reads = ap (λ o. and_then o (λ x j. read body d (token (class_number (class.Punct punct.RightParen)) >> Give (deeper x)) j)) L.reads
+        ∙ paren_at (is_class (class.Punct punct.RightParen) (seen_at w k)) (record { tree = t; height = L.height }) k (is_it w (class.Punct punct.RightParen) k c)
+        ∙ ap (λ k. Ok (record { tree = t; height = L.height + 1 }, from w k)) e;
+  }
 
   module _ (due : Sort) (least origin : ℕ) where
     abbrev pub turns : Standing → Input → Outcome (Turn Standing Standing)

@@ -49,7 +49,8 @@ use Rattle.c_spelled.proofs.Pieces.{AllRead, GotParts, is_it, is_not}
 use Rattle.c_spelled.proofs.Shapes.{is_punct, is_key}
 use Rattle.c_spelled.proofs.Nodes.{Room, Parts_match, off_within, same_got, whole_read, the_parts, complete_node}
 use Rattle.c_spelled.proofs.Levels.{off_unapt, off_operator}
-use Rattle.c_spelled.proofs.Climb.{AllCalled, Lower, called_read, Tight, tight_in, stand, stands_at, tight_at, Rises, begin, longer, finish, ends_at}
+use Rattle.c_spelled.proofs.Alone.{exp_is}
+use Rattle.c_spelled.proofs.Climb.{AllCalled, Lower, called_read, in_parens, Tight, tight_in, stand, stands_at, tight_at, Rises, begin, longer, finish, ends_at}
 
 abbrev held_or : Shape → Option Shape → Shape
 held_or x (Some y) = y
@@ -313,3 +314,54 @@ module _ (body : Body) (d top : ℕ) (w : List Shape) (levels : Type 0) (room : 
   exp_node (exp.Assign assignment.BitAnd) l m parts i j le high left o M = by_operator (form.Exp (exp.Assign assignment.BitAnd)) 15 punct.AmpersandEqual l m parts i j le high left o M (held_so (shape.Punct punct.AmpersandEqual) (raw_at w M.place.place) M.are_others.0.0) refl refl refl refl refl (λ _ _. refl) refl refl refl
   exp_node (exp.Assign assignment.BitXor) l m parts i j le high left o M = by_operator (form.Exp (exp.Assign assignment.BitXor)) 15 punct.CaretEqual l m parts i j le high left o M (held_so (shape.Punct punct.CaretEqual) (raw_at w M.place.place) M.are_others.0.0) refl refl refl refl refl (λ _ _. refl) refl refl refl
   exp_node (exp.Assign assignment.BitOr) l m parts i j le high left o M = by_operator (form.Exp (exp.Assign assignment.BitOr)) 15 punct.BarEqual l m parts i j le high left o M (held_so (shape.Punct punct.BarEqual) (raw_at w M.place.place) M.are_others.0.0) refl refl refl refl refl (λ _ _. refl) refl refl refl
+
+  -- ---- any expression
+
+  paren_off : (k : Spot) → Is w (class.Punct punct.RightParen) k → Off (goes_on s.Exp 1) w k.place
+  paren_off k c = off (class_number (class.Punct punct.RightParen) ∷ []) (goes_on s.Exp 1) w k.place refl (on_here (class_number (class.Punct punct.RightParen) ∷ []) w k (single (class_number (class.Punct punct.RightParen)) (class_at w k) c))
+
+  abbrev paren_type : ℕ → Spot → Reader Standing
+  paren_type l i = tight l (form.Exp exp.Cast) (completed called s.Exp (form.Exp exp.Cast) i.place nothing (after_paren (pieces (form.Exp exp.Cast))))
+
+  wrapped : (l m : ℕ) (t : Plain) (i j : Spot) → Wraps levels deeper w s.Exp t i j → RisesExp body d w part l (top + 1) i t m j
+  wrapped l m t i j W =
+      let L = DC s.Exp 1 t (step i) W.last refl W.within (paren_off W.last W.closes) in
+      let G : Got (read body d (parenthesized s.Exp) (from w (step i))) top t w j = in_parens body d w s.Exp top t (step i) W.last j L W.closes W.ends in
+      let S : read body d (standing 17 (parenthesized s.Exp)) (from w (step i)) ≡ Ok (stand t G.height 17, from w j) = stands_at body d w 17 (parenthesized s.Exp) top t (step i) j G in
+      let B : has (starts s.Exp) (class_at w (step i)) ≡ true = elim (DB s.Exp 1 t (step i) W.last refl W.within) [ | inl b ↦ b.0 | inr e ↦ absurd (cc e.0) ] in
+      begin body d w s.Exp l i.place (Enters body d w l i) (primary part l) (top + 1) i t m G.height 17 j (inr refl) (omega (arith, G.low))
+          (at_primary l i true (is_it w (class.Punct punct.LeftParen) i W.opens) ∙ fits_here (type_or (paren_type l i) (standing 17 (parenthesized s.Exp))) i W.left
+          ∙ in_type (paren_type l i) (standing 17 (parenthesized s.Exp)) i false W.begins ∙ S)
+          (λ _ _. (W.begins, ap (λ b. read body d (choose b (Fits 0 (standing 17 (parenthesized s.Exp))) Refuse) (from w (step i))) B ∙ fits_here (standing 17 (parenthesized s.Exp)) (step i) W.left ∙ S))
+
+  by_node : (l m : ℕ) (t : Plain) (i j : Spot) → IsNode levels deeper inner w s.Exp m t i j → l ≤ m → EndOff s.Exp w m j → RisesExp body d w part l (top + 1) i t m j
+  by_node l m t i j N le o =
+      let g = exp_is t.form N.may in
+      let M : (m ≤ level (form.Exp g.0)) × (Levels (is_starred (form.Exp g.0)) levels × Here (form.Exp g.0) (pieces (form.Exp g.0)) N.parts i j) =
+          subst (λ f. (m ≤ level f) × (Levels (is_starred f) levels × Here f (pieces f) N.parts i j)) g.1 (N.tight, (N.left, N.matches)) in
+      let X : Goal l m (form.Exp g.0) N.parts i j = exp_node g.0 l m N.parts i j le M.0 M.1.0 (o (level (form.Exp g.0)) (inl M.0)) M.1.1 in
+      subst (λ t. RisesExp body d w part l (top + 1) i t m j) (ap (λ f. forests.node f (spanned i.place j.place) N.parts) (sym g.1) ∙ sym N.value) X
+
+  pub exp_rises : (l m : ℕ) (t : Plain) (i j : Spot) → IsNode levels deeper inner w s.Exp m t i j ⊎ Wraps levels deeper w s.Exp t i j → l ≤ m → EndOff s.Exp w m j → RisesExp body d w part l (top + 1) i t m j
+  exp_rises l m t i j (inl N) le o = by_node l m t i j N le o
+  exp_rises l m t i j (inr W) le o = wrapped l m t i j W
+
+  pub exp_read : (least : ℕ) (t : Plain) (i j : Spot) → IsNode levels deeper inner w s.Exp least t i j ⊎ Wraps levels deeper w s.Exp t i j → Off (goes_on s.Exp least) w j.place → Got (read body d (expression part least) (from w i)) top t w j
+  unfolding expression
+  exp_read least t i j A o = finish body d w s.Exp least i.place (Enters body d w least i) (primary part least) top i t least j refl (exp_rises least least t i j A (omega arith) (end_off least w j o)) o
+
+  -- after the parenthesis that it begins with
+  pub opened_read : (t : Plain) (i j : Spot) → IsNode levels deeper inner w s.Exp 15 t i j ⊎ Wraps levels deeper w s.Exp t i j → Is w (class.Punct punct.LeftParen) i → Off (goes_on s.Exp 15) w j.place
+      → (has (starts s.TypeName) (class_at w (aside (step i))) ≡ false) × Got (read body d opened (from w (step i))) top t w j
+  unfolding opened
+  opened_read t i j A c o =
+      let R = exp_rises 15 15 t i j A (omega arith) (end_off 15 w j o) in
+      let K = R.kept (omega arith) c in
+      let back : (step i).place - 1 ≡ i.place = omega arith in
+      (K.0, record {
+        height = R.height;
+        low = omega (arith, R.low);
+        reads = ap (λ o. and_then o (λ y j. read body d (climb s.Exp 15 ((step i).place - 1) y) j)) K.1
+            ∙ ap (λ n. read body d (climb s.Exp 15 n R.first) (from w R.place)) back
+            ∙ ends_at body d w s.Exp 15 i.place (Enters body d w 15 i) (primary part 15) (top + 1) i t 15 j refl R o;
+      })
