@@ -13,3 +13,4 @@ mod Params
 mod Levels
 mod Climb
 mod Exps
+mod Balance
