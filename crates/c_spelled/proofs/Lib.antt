@@ -14,3 +14,8 @@ mod Levels
 mod Climb
 mod Exps
 mod Balance
+mod Heads
+mod Declarators
+mod Abstracts
+mod ParamDeclarators
+mod MemberNames
