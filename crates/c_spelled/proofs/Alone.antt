@@ -10,6 +10,7 @@ use Rattle.c_forms.specs.declared.forms.DeclaratorForm.{DeclaratorForm}
 use Rattle.c_forms.specs.declared.forms.SpecForm.TheVariants as spec
 use Rattle.c_forms.specs.declared.forms.InitForm.TheVariants as init
 use Rattle.c_forms.specs.declared.forms.ParamsForm.TheVariants as params
+use Rattle.c_forms.specs.declared.forms.StmtForm.{StmtForm}
 use Rattle.c_forms.specs.declared.forms.StmtForm.TheVariants as stmt
 use Rattle.c_forms.specs.declared.forms.ItemForm.TheVariants as item
 use Rattle.c_forms.specs.declared.forms.TemplateForm.TheVariants as template
@@ -257,3 +258,12 @@ member_name_is (form.Item item.Function) m = absurd (cc m)
 member_name_is (form.Template (template.Many k)) m = absurd (cc m)
 member_name_is (form.Group group.List) m = absurd (cc m)
 member_name_is _ m = absurd (cc m)
+
+pub stmt_is : (f : Form) → may_be s.Stmt f ≡ true → (g : StmtForm) × (f ≡ form.Stmt g)
+stmt_is (form.Stmt g) m = (g, refl)
+stmt_is (form.Exp (exp.Int w)) m = absurd (cc m)
+stmt_is (form.Spec (spec.Storage c)) m = absurd (cc m)
+stmt_is (form.Item item.Function) m = absurd (cc m)
+stmt_is (form.Template (template.Many k)) m = absurd (cc m)
+stmt_is (form.Group group.List) m = absurd (cc m)
+stmt_is _ m = absurd (cc m)

@@ -113,7 +113,7 @@ module _ (body : Body) (d top : ℕ) (w : List Shape) (due : Sort) (least : ℕ)
     turn_on on g h t i k j s o e = choice g i true (on (class_at w i) (next_begins (separator_of r) t i k j s o))
         ∙ ap (λ o. and_then o (λ t j. Ok (More t, j))) (after_separator (separator_of r) g i k s ∙ e)
 
-    all_read : ((c : ℕ) → has (between_set (separator_of r) due) c ≡ true → has (goes_on_with r (element_starts r due)) c ≡ true)
+    pub all_read : ((c : ℕ) → has (between_set (separator_of r) due) c ≡ true → has (goes_on_with r (element_starts r due)) c ≡ true)
         → between_fits (separator_of r) due least ≡ true → (ts : List Plain) (p : ℕ) (i j : Spot) → Elements one w (separator_of r) ts i j → Off (goes_on due least) w j.place → has (goes_on_with r (element_starts r due)) (class_at w j) ≡ false
         → GotAll (read body d (element_after element (none_at p) >>= λ g. others r due element g) (from w i)) top ts false j.place w j
     unfolding others
@@ -191,10 +191,10 @@ module _ (body : Body) (d top : ℕ) (w : List Shape) (due : Sort) (least : ℕ)
   once_read ts i j O c o e = let G : Got (read body d element (from w i)) top O.0 w j = E O.0 i j O.1.1 c in
       record { height = max 0 G.height; low = omega (arith, G.low); reads = e ∙ after_element (none_at i.place) O.0 i j G ∙ ap (λ us. Ok (listed us (max 0 G.height) j.place false, from w j)) (sym O.1.0) }
 
-  starts_all : (r : Repetition) (c : ℕ) → has (starts due) c ≡ true → has (element_starts r due) c ≡ true
+  pub starts_all : (r : Repetition) (c : ℕ) → has (starts due) c ≡ true → has (element_starts r due) c ≡ true
   starts_all r c h = has_left (starts due) _ c h
 
-  nothing_on : (c : ℕ) → has (starts due) c ≡ false → has (starts due ++ []) c ≡ false
+  pub nothing_on : (c : ℕ) → has (starts due) c ≡ false → has (starts due ++ []) c ≡ false
   nothing_on c h = has_none (starts due) [] c h refl
 
   many_on : (c : Option Class) (n few : ℕ) → has (between_set c due) n ≡ true → has (goes_on_with (Many c few) (element_starts (Many c few) due)) n ≡ true

@@ -19,3 +19,4 @@ mod Declarators
 mod Abstracts
 mod ParamDeclarators
 mod MemberNames
+mod Stmts

@@ -123,7 +123,7 @@ module _ (body : Body) (d top : ℕ) (w : List Shape) (levels : Type 0) (room : 
 -- ---- words and literals
 
 module _ (body : Body) (d top : ℕ) (w : List Shape) where
-  a_word : (word : Word) (b : Bool) → is_word (record { shape = shape.Word word; class = word_class b }) ≡ true
+  pub a_word : (word : Word) (b : Bool) → is_word (record { shape = shape.Word word; class = word_class b }) ≡ true
   a_word word true = refl
   a_word word false = refl
 
