@@ -126,6 +126,11 @@ module _ (body : Body) (d top : ℕ) (w : List Shape) (due : Sort) (least : ℕ)
               ∙ stop w turns H.first H.place (listed ts H.height j.place false) j (listed ts H.height j.place false) (from w j) H.comes (choice (listed ts H.height j.place false) j false e) (d + length w) (omega arith);
         }
 
+    -- where none follows
+    pub over_read : (g : Gathered) (i : Spot) → has (goes_on_with r (element_starts r due)) (class_at w i) ≡ false → read body d (others r due element g) (from w i) ≡ Ok (g, from w i)
+    unfolding others
+    over_read g i e = stop w turns g i g i g (from w i) (stay w turns g i) (choice g i false e) (d + length w) (omega arith)
+
   -- ---- loops whose end may follow the separator
 
   module _ (c e : Class) where

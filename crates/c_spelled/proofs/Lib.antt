@@ -20,3 +20,4 @@ mod Abstracts
 mod ParamDeclarators
 mod MemberNames
 mod Stmts
+mod Blocks

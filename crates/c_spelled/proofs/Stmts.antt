@@ -92,7 +92,7 @@ module _ (body : Body) (d top : ℕ) (w : List Shape) (levels : Type 0) (room : 
   abbrev Goal : Plain → Spot → Spot → Type 0
   Goal t i j = Got (read body d (statement part) (from w i)) top t w j
 
-  at_statement : (i : Spot) (b : Bool) → is_word (seen_at w i) ≡ b → read body d (statement part) (from w i) ≡ read body d (choose b (worded part i.place (seen_at w i)) (statement_by part (begun s.Stmt (raw_at w i.place)))) (from w i)
+  pub at_statement : (i : Spot) (b : Bool) → is_word (seen_at w i) ≡ b → read body d (statement part) (from w i) ≡ read body d (choose b (worded part i.place (seen_at w i)) (statement_by part (begun s.Stmt (raw_at w i.place)))) (from w i)
   unfolding statement
   at_statement i b e = ap (λ b. read body d (choose b (worded part i.place (seen_at w i)) (statement_by part (begun s.Stmt (raw_at w i.place)))) (from w i)) e
 
