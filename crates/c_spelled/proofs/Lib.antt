@@ -21,3 +21,5 @@ mod ParamDeclarators
 mod MemberNames
 mod Stmts
 mod Blocks
+mod AtFirst
+mod Sorts

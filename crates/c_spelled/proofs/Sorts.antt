@@ -1,0 +1,188 @@
+-- What is spelled is read, of each sort that is a part.
+use Rattle.std.proofs.Common.{◌≡◌, ◌⊎◌, inl, inr, refl, subst, ap, sym, ◌∙◌, ℕ, zero, suc, ◌+◌, ◌<◌, ◌≤◌, max, not, Bool, true, false, ◌||◌, ◌&&◌, List, length, [], ◌∷◌, ◌++◌, nat_eq, Option, Some, None, Ok, Err, arith}
+use Rattle.c_tokens.specs.declared.token.Shape.{Shape}
+use Rattle.c_tokens.specs.declared.token.Shape.TheVariants as shape
+use Rattle.c_tokens.specs.declared.token.Word.{Word}
+use Rattle.c_tokens.specs.declared.token.Punct.TheVariants as punct
+use Rattle.c_tokens.specs.declared.class.Class.TheVariants as class
+use Rattle.c_tokens.specs.ClassNumbers.{class_number}
+use Rattle.c_forms.specs.declared.pieces.Event.TheVariants as event
+use Rattle.c_forms.specs.declared.pieces.Sort.{Sort}
+use Rattle.c_forms.specs.declared.pieces.Sort.TheVariants as s
+use Rattle.c_forms.specs.declared.forms.Form.{Form}
+use Rattle.c_forms.specs.declared.forms.Form.TheVariants as form
+use Rattle.c_forms.specs.declared.forms.ExpForm.TheVariants as exp
+use Rattle.c_forms.specs.declared.forms.SpecForm.TheVariants as spec
+use Rattle.c_forms.specs.declared.forms.DeclaratorForm.{DeclaratorForm}
+use Rattle.c_forms.specs.declared.forms.DeclaratorForm.TheVariants as declarator
+use Rattle.c_forms.specs.declared.forms.GroupForm.TheVariants as group
+use Rattle.c_forms.specs.Forests.{Plain}
+use Rattle.c_forms.specs.Forests as forests
+use Rattle.c_forms.specs.Measures.{level, pieces}
+use Rattle.c_forms.specs.Sets.{Classes, has, starts, goes_on, type_word}
+use Rattle.c_reader.specs.States.{State, seen, class as class_in, happens}
+use Rattle.c_reader.specs.Tokens.{Spot, spot, step, turned, raw_at, seen_at, class_at}
+use Rattle.c_reader.specs.Readers.{Input, Reader, Found, Outcome, Body, Rule, Of, Opened, read, below}
+use Rattle.c_reader.proofs.Local.{from}
+use Rattle.c_syntax.specs.Allowed.{places}
+use Rattle.c_syntax.specs.Reading.{Parts, called, is_absent, is_starred, inside, spanned}
+use Rattle.c_syntax.specs.Grammar.{Standing, absent_at, opened, at_sort, in_place, body}
+use Rattle.c_syntax.specs.Spells.{Spelling, nothing_spelled, Is, Matches, IsNode, Wraps, may_be, AnyWord, ValueWord, IsLiteral, after_name, At, InPlace, Spells}
+use Rattle.c_spelled.specs.Fitting.{is_read, need}
+use Rattle.c_spelled.proofs.Off.{Off}
+use Rattle.c_spelled.proofs.Begins.{AllBegin, in_place_begins, spells_begin}
+use Rattle.c_spelled.proofs.Balance.{AllSame, spells_same}
+use Rattle.c_spelled.proofs.Groups.{Got}
+use Rattle.c_spelled.proofs.Pieces.{AllRead}
+use Rattle.c_spelled.proofs.Nodes.{Room, only_read, id_read, declared_read, parameter_read, enumerator_read, literal_read}
+use Rattle.c_spelled.proofs.Parts.{any_spec_read, plain_spec_read, qualifier_read, block_read, init_read}
+use Rattle.c_spelled.proofs.Params.{params_read}
+use Rattle.c_spelled.proofs.Climb.{AllCalled, Lower, called_read}
+use Rattle.c_spelled.proofs.Exps.{EndOff, RisesExp, exp_read, exp_rises, opened_read}
+use Rattle.c_spelled.proofs.Heads.{Clear, RisesSo, There}
+use Rattle.c_spelled.proofs.Declarators as with_name
+use Rattle.c_spelled.proofs.Abstracts as without_name
+use Rattle.c_spelled.proofs.ParamDeclarators as of_parameter
+use Rattle.c_spelled.proofs.MemberNames as of_member
+use Rattle.c_spelled.proofs.Stmts.{AtWord, stmt_read}
+use Rattle.c_spelled.proofs.Blocks.{AtType, block_item_read}
+use Rattle.c_spelled.proofs.AtFirst.{at_word, at_type}
+use Rattle.c_spelled.proofs.Alone.{type_name_form, member_form, enumerator_form, param_form, decl_form, init_declarator_form, initializer_form, member_declarator_form, width_form, members_form, enumerators_form, enumerator_value_form, else_part_form}
+
+by_false : (b : Bool) → (b ≡ true → ⊥) → b ≡ false
+by_false true f = absurd (f refl)
+by_false false f = refl
+
+-- A declarator that another goes on with is read as one of a sort, with readers of words and literals.
+abbrev pub DeclaratorsRise : ℕ → ℕ → List Shape → Spelling → Sort → Sort → Type 0
+DeclaratorsRise d top w deeper due sub = (n m l : ℕ) (t : Plain) (i k : Spot) → deeper sub m t i k → l ≤ m → EndOff due w m k → Clear due w t k → RisesSo body d w (in_place (suc n)) due l top i t m k
+
+-- what is known of what lies one level deeper
+pub record Deep (d top : ℕ) (w : List Shape) (deeper : Spelling) : Type 0 where
+  pub begins : AllBegin w deeper
+  pub same : AllSame deeper
+  pub calls : AllCalled body d top w deeper
+  pub opens : (t : Plain) (i j : Spot) → deeper s.Exp 15 t i j → Is w (class.Punct punct.LeftParen) i → Off (goes_on s.Exp 15) w j.place
+      → (has (starts s.TypeName) (class_at w (turned (happens event.Aside) (step i))) ≡ false) × Lower (below body d Opened (from w (step i))) top t w j
+  pub exps : (n m l : ℕ) (t : Plain) (i k : Spot) → deeper s.Exp m t i k → l ≤ m → EndOff s.Exp w m k → RisesExp body d w (in_place (suc n)) l top i t m k
+  pub declarators : DeclaratorsRise d top w deeper s.Declarator s.Declarator
+  pub abstracts : DeclaratorsRise d top w deeper s.AbstractDeclarator s.AbstractDeclarator
+  pub parameters : DeclaratorsRise d top w deeper s.ParamDeclarator s.ParamDeclarator
+  pub members : DeclaratorsRise d top w deeper s.MemberName s.Declarator
+  pub ids : (least : ℕ) (t : Plain) (i j : Spot) → deeper s.Id least t i j → AnyWord w t i × (step i ≡ j)
+  pub named : (m : ℕ) (t : Plain) (i k : Spot) → deeper s.Declarator m t i k → is_absent t ≡ true → ⊥
+  pub abstract_there : (m : ℕ) (t : Plain) (i k : Spot) → deeper s.AbstractDeclarator m t i k → There s.AbstractDeclarator t i k
+  pub parameter_there : (m : ℕ) (t : Plain) (i k : Spot) → deeper s.ParamDeclarator m t i k → There s.ParamDeclarator t i k
+
+module _ (d top : ℕ) (w : List Shape) (levels : Type 0) (room : Room levels d top) (under : top ≤ d) (deeper : Spelling) (D : Deep d top w deeper) where
+  abbrev DE : AllRead body d top w places deeper called
+  DE = called_read body d top w deeper D.calls
+
+  abbrev spelled : ℕ → Spelling
+  spelled n = InPlace n levels deeper w
+
+  abbrev IB : (n : ℕ) → AllBegin w (spelled n)
+  IB n = in_place_begins n levels deeper w D.begins
+
+  literals : (m least : ℕ) (t : Plain) (i j : Spot) → spelled m s.Literal least t i j → IsLiteral w t i
+  unfolding InPlace
+  literals zero least t i j A = absurd A
+  literals (suc m) least t i j A = A.0
+
+  declareds : (m least : ℕ) (t : Plain) (i j : Spot) → spelled m s.DeclaredId least t i j → ValueWord w t i
+  unfolding InPlace
+  declareds zero least t i j A = absurd A
+  declareds (suc m) least t i j A = A.0
+
+  -- words and literals are read wherever a node may lie
+  leaf_reads : (m m' : ℕ) → AllRead body d top w 1 (spelled m') (in_place (suc m))
+  unfolding InPlace in_place
+  leaf_reads m zero due least t i j r few A o = absurd A
+  leaf_reads m (suc m') s.Literal least t i j r few A o = literal_read body d top w t i j A.0 A.1
+  leaf_reads m (suc m') s.DeclaredId least t i j r few A o = declared_read body d top w t i j A.0 A.1
+  leaf_reads m (suc m') s.Exp least t i j r few A o = absurd (omega (arith, few))
+  leaf_reads m (suc m') s.Declarator least t i j r few A o = absurd (omega (arith, few))
+  leaf_reads m (suc m') s.AbstractDeclarator least t i j r few A o = absurd (omega (arith, few))
+  leaf_reads m (suc m') s.ParamDeclarator least t i j r few A o = absurd (omega (arith, few))
+  leaf_reads m (suc m') s.MemberName least t i j r few A o = absurd (omega (arith, few))
+  leaf_reads m (suc m') s.Id least t i j r few A o = absurd (omega (arith, few))
+  leaf_reads m (suc m') s.ParameterId least t i j r few A o = absurd (omega (arith, few))
+  leaf_reads m (suc m') s.EnumeratorId least t i j r few A o = absurd (omega (arith, few))
+  leaf_reads m (suc m') s.Spec least t i j r few A o = absurd (omega (arith, few))
+  leaf_reads m (suc m') s.PlainSpec least t i j r few A o = absurd (omega (arith, few))
+  leaf_reads m (suc m') s.Qualifier least t i j r few A o = absurd (omega (arith, few))
+  leaf_reads m (suc m') s.TypeName least t i j r few A o = absurd (omega (arith, few))
+  leaf_reads m (suc m') s.Member least t i j r few A o = absurd (omega (arith, few))
+  leaf_reads m (suc m') s.Enumerator least t i j r few A o = absurd (omega (arith, few))
+  leaf_reads m (suc m') s.Params least t i j r few A o = absurd (omega (arith, few))
+  leaf_reads m (suc m') s.Param least t i j r few A o = absurd (omega (arith, few))
+  leaf_reads m (suc m') s.Init least t i j r few A o = absurd (omega (arith, few))
+  leaf_reads m (suc m') s.Decl least t i j r few A o = absurd (omega (arith, few))
+  leaf_reads m (suc m') s.Stmt least t i j r few A o = absurd (omega (arith, few))
+  leaf_reads m (suc m') s.Block least t i j r few A o = absurd (omega (arith, few))
+  leaf_reads m (suc m') s.BlockItem least t i j r few A o = absurd (omega (arith, few))
+  leaf_reads m (suc m') s.InitDeclarator least t i j r few A o = absurd (omega (arith, few))
+  leaf_reads m (suc m') s.Initializer least t i j r few A o = absurd (omega (arith, few))
+  leaf_reads m (suc m') s.MemberDeclarator least t i j r few A o = absurd (omega (arith, few))
+  leaf_reads m (suc m') s.Width least t i j r few A o = absurd (omega (arith, few))
+  leaf_reads m (suc m') s.Members least t i j r few A o = absurd (omega (arith, few))
+  leaf_reads m (suc m') s.Enumerators least t i j r few A o = absurd (omega (arith, few))
+  leaf_reads m (suc m') s.EnumeratorValue least t i j r few A o = absurd (omega (arith, few))
+  leaf_reads m (suc m') s.ElsePart least t i j r few A o = absurd (omega (arith, few))
+  leaf_reads m (suc m') _ least t i j r few A o = absurd (cc r)
+
+  no_absent : (least : ℕ) (t : Plain) (i k : Spot) → deeper s.Declarator least t i k → There s.Declarator t i k
+  no_absent least t i k A = inl (by_false (is_absent t) (D.named least t i k A))
+
+  loosest : (due : Sort) (least : ℕ) (t : Plain) (i j : Spot) (n : ℕ) → IsNode levels deeper (spelled n) w due least t i j → IsNode levels deeper (spelled n) w due 0 t i j
+  loosest due least t i j n N = record { parts = N.parts; value = N.value; may = N.may; tight = omega arith; left = N.left; matches = N.matches }
+
+  -- a node where it stands, of each sort
+  at_read : (n : ℕ) → AllRead body d top w n (spelled n) (in_place n) → AllRead body d top w (suc n) (At levels deeper (spelled n) w) (at_sort (in_place n))
+  at_read zero IE s.Exp least t i j r few A o = absurd (omega (arith, few))
+  at_read (suc n) IE s.Exp least t i j r few A o = exp_read body d top w levels room under deeper (spelled (suc n)) (in_place (suc n)) D.begins (IB (suc n)) D.calls (leaf_reads n (suc n)) (literals (suc n)) D.opens (D.exps n) least t i j A o
+  at_read zero IE s.Declarator least t i j r few A o = absurd (omega (arith, few))
+  at_read (suc n) IE s.Declarator least t i j r few A o = with_name.declarator_read body d top w levels room under deeper (spelled (suc n)) (in_place (suc n)) D.begins (IB (suc n)) D.calls (leaf_reads n (suc n)) (declareds (suc n)) D.same no_absent D.named (D.declarators n) least t i j A o
+  at_read zero IE s.AbstractDeclarator least t i j r few A o = absurd (omega (arith, few))
+  at_read (suc n) IE s.AbstractDeclarator least t i j r few A o = without_name.declarator_read body d top w levels room under deeper (spelled (suc n)) (in_place (suc n)) D.begins (IB (suc n)) D.calls (leaf_reads n (suc n)) (declareds (suc n)) D.same D.abstract_there (D.abstracts n) least t i j A o
+  at_read zero IE s.ParamDeclarator least t i j r few A o = absurd (omega (arith, few))
+  at_read (suc n) IE s.ParamDeclarator least t i j r few A o = of_parameter.declarator_read body d top w levels room under deeper (spelled (suc n)) (in_place (suc n)) D.begins (IB (suc n)) D.calls (leaf_reads n (suc n)) (declareds (suc n)) D.same D.parameter_there (D.parameters n) least t i j A o
+  at_read zero IE s.MemberName least t i j r few A o = absurd (omega (arith, few))
+  at_read (suc n) IE s.MemberName least t i j r few A o = of_member.declarator_read body d top w levels room under deeper (spelled (suc n)) (in_place (suc n)) D.begins (IB (suc n)) D.calls (leaf_reads n (suc n)) (declareds (suc n)) D.same no_absent D.named (D.members n) least t i j A o
+  at_read n IE s.Id least t i j r few A o = id_read body d top w t i j A.0 A.1
+  at_read n IE s.DeclaredId least t i j r few A o = declared_read body d top w t i j A.0 A.1
+  at_read n IE s.ParameterId least t i j r few A o = parameter_read body d top w t i j A.0 A.1
+  at_read n IE s.EnumeratorId least t i j r few A o = enumerator_read body d top w t i j A.0 A.1
+  at_read n IE s.Literal least t i j r few A o = literal_read body d top w t i j A.0 A.1
+  at_read n IE s.Spec least t i j r few A o = any_spec_read body d top w levels room n deeper (spelled n) (in_place n) D.begins (IB n) DE IE (omega (arith, few)) least t i j A.0 A.1 o
+  at_read n IE s.PlainSpec least t i j r few A o = plain_spec_read body d top w levels room n deeper (spelled n) (in_place n) D.begins (IB n) DE IE (omega (arith, few)) least t i j A.0 A.1 o
+  at_read n IE s.Qualifier least t i j r few A o = qualifier_read body d top w levels room n deeper (spelled n) (in_place n) D.begins (IB n) DE IE (omega (arith, few)) least t i j A o
+  at_read n IE s.Params least t i j r few A o = params_read body d top w levels room n deeper (spelled n) (in_place n) D.begins (IB n) DE IE (omega (arith, few)) least t i j A.0 A.1 o
+  at_read n IE s.Init least t i j r few A o = init_read body d top w levels room n deeper (spelled n) (in_place n) D.begins (IB n) DE IE (omega (arith, few)) least t i j A o
+  at_read n IE s.Block least t i j r few A o = block_read body d top w levels room n deeper (spelled n) (in_place n) D.begins (IB n) DE IE (omega (arith, few)) least t i j A
+  at_read zero IE s.Stmt least t i j r few A o = absurd (omega (arith, few))
+  at_read (suc n) IE s.Stmt least t i j r few A o = stmt_read body d top w levels room (suc n) deeper (spelled (suc n)) (in_place (suc n)) D.begins (IB (suc n)) DE IE (omega (arith, few)) D.ids (at_word d w n) t i j (loosest s.Stmt least t i j (suc n) A)
+  at_read zero IE s.BlockItem least t i j r few A o = absurd (omega (arith, few))
+  at_read (suc n) IE s.BlockItem least t i j r few (inl A) o = block_item_read body d top w levels room (suc n) deeper (spelled (suc n)) (in_place (suc n)) D.begins (IB (suc n)) DE IE (omega (arith, few)) D.ids (at_word d w n) (at_type d w n) t i j
+      (inl (A.0, loosest s.Decl least t i j (suc n) A.1))
+  at_read (suc n) IE s.BlockItem least t i j r few (inr A) o = block_item_read body d top w levels room (suc n) deeper (spelled (suc n)) (in_place (suc n)) D.begins (IB (suc n)) DE IE (omega (arith, few)) D.ids (at_word d w n) (at_type d w n) t i j
+      (inr (A.0, (loosest s.Stmt least t i A.0 (suc n) A.1.0, A.1.1)))
+  at_read n IE s.TypeName least t i j r few A o = only_read body d top w levels room n deeper (spelled n) (in_place n) D.begins (IB n) DE IE s.TypeName (form.TypeName) least t i j refl refl refl (omega (arith, few)) (type_name_form t.form A.may) A o
+  at_read n IE s.Member least t i j r few A o = only_read body d top w levels room n deeper (spelled n) (in_place n) D.begins (IB n) DE IE s.Member (form.Member) least t i j refl refl refl (omega (arith, few)) (member_form t.form A.may) A o
+  at_read n IE s.Enumerator least t i j r few A o = only_read body d top w levels room n deeper (spelled n) (in_place n) D.begins (IB n) DE IE s.Enumerator (form.Enumerator) least t i j refl refl refl (omega (arith, few)) (enumerator_form t.form A.may) A o
+  at_read n IE s.Param least t i j r few A o = only_read body d top w levels room n deeper (spelled n) (in_place n) D.begins (IB n) DE IE s.Param (form.Param) least t i j refl refl refl (omega (arith, few)) (param_form t.form A.may) A o
+  at_read n IE s.Decl least t i j r few A o = only_read body d top w levels room n deeper (spelled n) (in_place n) D.begins (IB n) DE IE s.Decl (form.Decl) least t i j refl refl refl (omega (arith, few)) (decl_form t.form A.may) A o
+  at_read n IE s.InitDeclarator least t i j r few A o = only_read body d top w levels room n deeper (spelled n) (in_place n) D.begins (IB n) DE IE s.InitDeclarator (form.Group group.InitDeclarator) least t i j refl refl refl (omega (arith, few)) (init_declarator_form t.form A.may) A o
+  at_read n IE s.Initializer least t i j r few A o = only_read body d top w levels room n deeper (spelled n) (in_place n) D.begins (IB n) DE IE s.Initializer (form.Group group.Initializer) least t i j refl refl refl (omega (arith, few)) (initializer_form t.form A.may) A o
+  at_read n IE s.MemberDeclarator least t i j r few A o = only_read body d top w levels room n deeper (spelled n) (in_place n) D.begins (IB n) DE IE s.MemberDeclarator (form.Group group.MemberDeclarator) least t i j refl refl refl (omega (arith, few)) (member_declarator_form t.form A.may) A o
+  at_read n IE s.Width least t i j r few A o = only_read body d top w levels room n deeper (spelled n) (in_place n) D.begins (IB n) DE IE s.Width (form.Group group.Width) least t i j refl refl refl (omega (arith, few)) (width_form t.form A.may) A o
+  at_read n IE s.Members least t i j r few A o = only_read body d top w levels room n deeper (spelled n) (in_place n) D.begins (IB n) DE IE s.Members (form.Group group.Members) least t i j refl refl refl (omega (arith, few)) (members_form t.form A.may) A o
+  at_read n IE s.Enumerators least t i j r few A o = only_read body d top w levels room n deeper (spelled n) (in_place n) D.begins (IB n) DE IE s.Enumerators (form.Group group.Enumerators) least t i j refl refl refl (omega (arith, few)) (enumerators_form t.form A.may) A o
+  at_read n IE s.EnumeratorValue least t i j r few A o = only_read body d top w levels room n deeper (spelled n) (in_place n) D.begins (IB n) DE IE s.EnumeratorValue (form.Group group.EnumeratorValue) least t i j refl refl refl (omega (arith, few)) (enumerator_value_form t.form A.may) A o
+  at_read n IE s.ElsePart least t i j r few A o = only_read body d top w levels room n deeper (spelled n) (in_place n) D.begins (IB n) DE IE s.ElsePart (form.Group group.ElsePart) least t i j refl refl refl (omega (arith, few)) (else_part_form t.form A.may) A o
+  at_read n IE _ least t i j r few A o = absurd (cc r)
+
+  pub in_place_read : (n : ℕ) → AllRead body d top w n (spelled n) (in_place n)
+  unfolding InPlace in_place
+  in_place_read zero due least t i j r few A o = absurd A
+  in_place_read (suc n) due least t i j r few A o = at_read n (in_place_read n) due least t i j r few A o
