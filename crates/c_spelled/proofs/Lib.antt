@@ -23,3 +23,4 @@ mod Stmts
 mod Blocks
 mod AtFirst
 mod Sorts
+mod Depths

@@ -84,18 +84,18 @@ module _ (d top : ℕ) (w : List Shape) (levels : Type 0) (room : Room levels d 
   abbrev IB : (n : ℕ) → AllBegin w (spelled n)
   IB n = in_place_begins n levels deeper w D.begins
 
-  literals : (m least : ℕ) (t : Plain) (i j : Spot) → spelled m s.Literal least t i j → IsLiteral w t i
+  pub literals : (m least : ℕ) (t : Plain) (i j : Spot) → spelled m s.Literal least t i j → IsLiteral w t i
   unfolding InPlace
   literals zero least t i j A = absurd A
   literals (suc m) least t i j A = A.0
 
-  declareds : (m least : ℕ) (t : Plain) (i j : Spot) → spelled m s.DeclaredId least t i j → ValueWord w t i
+  pub declareds : (m least : ℕ) (t : Plain) (i j : Spot) → spelled m s.DeclaredId least t i j → ValueWord w t i
   unfolding InPlace
   declareds zero least t i j A = absurd A
   declareds (suc m) least t i j A = A.0
 
   -- words and literals are read wherever a node may lie
-  leaf_reads : (m m' : ℕ) → AllRead body d top w 1 (spelled m') (in_place (suc m))
+  pub leaf_reads : (m m' : ℕ) → AllRead body d top w 1 (spelled m') (in_place (suc m))
   unfolding InPlace in_place
   leaf_reads m zero due least t i j r few A o = absurd A
   leaf_reads m (suc m') s.Literal least t i j r few A o = literal_read body d top w t i j A.0 A.1
@@ -131,7 +131,7 @@ module _ (d top : ℕ) (w : List Shape) (levels : Type 0) (room : Room levels d 
   leaf_reads m (suc m') s.ElsePart least t i j r few A o = absurd (omega (arith, few))
   leaf_reads m (suc m') _ least t i j r few A o = absurd (cc r)
 
-  no_absent : (least : ℕ) (t : Plain) (i k : Spot) → deeper s.Declarator least t i k → There s.Declarator t i k
+  pub no_absent : (least : ℕ) (t : Plain) (i k : Spot) → deeper s.Declarator least t i k → There s.Declarator t i k
   no_absent least t i k A = inl (by_false (is_absent t) (D.named least t i k A))
 
   loosest : (due : Sort) (least : ℕ) (t : Plain) (i j : Spot) (n : ℕ) → IsNode levels deeper (spelled n) w due least t i j → IsNode levels deeper (spelled n) w due 0 t i j
