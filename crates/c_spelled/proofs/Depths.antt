@@ -92,7 +92,7 @@ module _ (d top : ℕ) (w : List Shape) (levels : Type 0) (room : Room levels d 
   next_opens t i j A c o = opened_read body d top w levels room under deeper (InPlace 8 levels deeper w) (in_place (suc 0)) D.begins IB D.calls (leaf_reads d top w levels room under deeper D 0 8) (literals d top w levels room under deeper D 8) D.opens (D.exps 0) t i j A c o
 
   next_reads : (due : Sort) (least : ℕ) (t : Plain) (i j : Spot) → is_read due ≡ true → whole_spelled due least t i j → Off (goes_on due least) w j.place → Got (read body d (in_place places due least) (from w i)) top t w j
-  next_reads due least t i j r A o = in_place_read d top w levels room under deeper D places due least t i j r (few_in_all due) A o
+  next_reads due least t i j r A o = in_place_read d top w levels room under deeper D places places due least t i j r (few_in_all due) A o
 
 -- ---- what a word, a name and nothing spell
 

@@ -94,6 +94,53 @@ module _ (body : Body) (d top : ℕ) (w : List Shape) (due : Sort) (least : ℕ)
               (go w turn H.first H.place here C.place there j H.comes turned (in_list (between_set c due) w C.place on (not_true (has (between_set c due) source_end) fit.1)) ahead);
         }
 
+    -- the first element, and what comes after it, with whatever height that was read
+    pub record Onward (ts : List Plain) (j : Spot) (t : Plain) (k : Spot) (h : ℕ) : Type 0 where
+      pub height : ℕ
+      pub low : height ≤ top
+      pub comes : Comes w turn (listed (t ∷ []) h k.place false) k (listed ts height j.place false) j
+
+    pub record FirstOf (ts : List Plain) (i j : Spot) : Type 0 where
+      pub tree : Plain
+      pub place : Spot
+      pub is_first : one tree i place
+      pub ends : Off (goes_on due least) w place.place
+      pub next : (place ≡ j) ⊎ (has (between_set c due) (class_at w place) ≡ true)
+      pub onward : (h : ℕ) → h ≤ top → Onward ts j tree place h
+
+    pub chain_on : (n : ℕ) (ts : List Plain) (i j : Spot) → Chain one w c n ts i j → Off (goes_on due least) w j.place → FirstOf ts i j
+    chain_on zero ts i j C o = record {
+      tree = C.0;
+      place = j;
+      is_first = C.1.1;
+      ends = o;
+      next = inl refl;
+      onward = λ h le. record { height = h; low = le; comes = subst (λ us. Comes w turn (listed (C.0 ∷ []) h j.place false) j (listed us h j.place false) j) (sym C.1.0) (stay w turn (listed (C.0 ∷ []) h j.place false) j) };
+    }
+    chain_on (suc n) ts i j C o =
+        let fit = both (parted (between_set c due) (goes_on due least)) _ F in
+        let on : has (between_set c due) (class_at w C.place) ≡ true = next_begins c C.last C.place C.next j C.between C.second in
+        let H : FirstOf C.before i C.place = chain_on n C.before i C.place C.first (off (between_set c due) (goes_on due least) w C.place.place fit.0 (on_here (between_set c due) w C.place on)) in
+        let G : Got (read body d element (from w C.next)) top C.last w j = E C.last C.next j C.second o in
+        let ahead : C.place.place < j.place = omega (arith, separated_onward c C.place C.next C.between, (B C.last C.next j C.second).1) in
+        record {
+          tree = H.tree;
+          place = H.place;
+          is_first = H.is_first;
+          ends = H.ends;
+          next = inr (elim (H.next) [ | inl e ↦ ap (λ k. has (between_set c due) (class_at w k)) e ∙ on | inr e ↦ e ]);
+          onward = λ h le. let R : Onward C.before C.place H.tree H.place h = H.onward h le in
+              let here : Gathered = listed C.before R.height C.place.place false in
+              let there : Gathered = listed (C.before ++ (C.last ∷ [])) (max R.height G.height) j.place false in
+              let turned : turn here (from w C.place) ≡ Ok (More there, from w j) = step_on here there C.last C.place C.next j C.between C.second (after_element here C.last C.next j G) in
+              record {
+                height = max R.height G.height;
+                low = omega (arith, G.low, R.low);
+                comes = subst (λ us. Comes w turn (listed (H.tree ∷ []) h H.place.place false) H.place (listed us (max R.height G.height) j.place false) j) (sym C.value)
+                    (go w turn (listed (H.tree ∷ []) h H.place.place false) H.place here C.place there j R.comes turned (in_list (between_set c due) w C.place on (not_true (has (between_set c due) source_end) fit.1)) ahead);
+              };
+        }
+
   -- ---- loops over a test of the next token
 
   module _ (r : Repetition) where
@@ -124,6 +171,33 @@ module _ (body : Body) (d top : ℕ) (w : List Shape) (due : Sort) (least : ℕ)
           low = H.low;
           reads = ap (λ o. and_then o (λ g j. read body d (others r due element g) j)) H.start
               ∙ stop w turns H.first H.place (listed ts H.height j.place false) j (listed ts H.height j.place false) (from w j) H.comes (choice (listed ts H.height j.place false) j false e) (d + length w) (omega arith);
+        }
+
+    -- the elements after the first
+    pub record Others (ts : List Plain) (i j : Spot) : Type 0 where
+      pub tree : Plain
+      pub place : Spot
+      pub is_first : one tree i place
+      pub ends : Off (goes_on due least) w place.place
+      pub next : (place ≡ j) ⊎ (has (between_set (separator_of r) due) (class_at w place) ≡ true)
+      pub reads : (h : ℕ) → h ≤ top → GotAll (read body d (others r due element (listed (tree ∷ []) h place.place false)) (from w place)) top ts false j.place w j
+
+    pub others_read : ((c : ℕ) → has (between_set (separator_of r) due) c ≡ true → has (goes_on_with r (element_starts r due)) c ≡ true)
+        → between_fits (separator_of r) due least ≡ true → (ts : List Plain) (i j : Spot) → Elements one w (separator_of r) ts i j → Off (goes_on due least) w j.place → has (goes_on_with r (element_starts r due)) (class_at w j) ≡ false → Others ts i j
+    unfolding others
+    others_read on F ts i j C o e =
+        let H : FirstOf turns (separator_of r) F (turn_on on) ts i j = chain_on turns (separator_of r) F (turn_on on) C.0 ts i j C.1 o in
+        record {
+          tree = H.tree;
+          place = H.place;
+          is_first = H.is_first;
+          ends = H.ends;
+          next = H.next;
+          reads = λ h le. let R = H.onward h le in record {
+            height = R.height;
+            low = R.low;
+            reads = stop w turns (listed (H.tree ∷ []) h H.place.place false) H.place (listed ts R.height j.place false) j (listed ts R.height j.place false) (from w j) R.comes (choice (listed ts R.height j.place false) j false e) (d + length w) (omega arith);
+          };
         }
 
     -- where none follows

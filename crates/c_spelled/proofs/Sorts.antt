@@ -53,6 +53,40 @@ by_false : (b : Bool) → (b ≡ true → ⊥) → b ≡ false
 by_false true f = absurd (f refl)
 by_false false f = refl
 
+read_needs : (due : Sort) → is_read due ≡ true → need due ≤ 0 → ⊥
+read_needs s.Exp r few = omega (arith, few)
+read_needs s.Declarator r few = omega (arith, few)
+read_needs s.AbstractDeclarator r few = omega (arith, few)
+read_needs s.ParamDeclarator r few = omega (arith, few)
+read_needs s.MemberName r few = omega (arith, few)
+read_needs s.Id r few = omega (arith, few)
+read_needs s.DeclaredId r few = omega (arith, few)
+read_needs s.Literal r few = omega (arith, few)
+read_needs s.ParameterId r few = omega (arith, few)
+read_needs s.EnumeratorId r few = omega (arith, few)
+read_needs s.Spec r few = omega (arith, few)
+read_needs s.PlainSpec r few = omega (arith, few)
+read_needs s.Qualifier r few = omega (arith, few)
+read_needs s.TypeName r few = omega (arith, few)
+read_needs s.Member r few = omega (arith, few)
+read_needs s.Enumerator r few = omega (arith, few)
+read_needs s.Params r few = omega (arith, few)
+read_needs s.Param r few = omega (arith, few)
+read_needs s.Init r few = omega (arith, few)
+read_needs s.Decl r few = omega (arith, few)
+read_needs s.Stmt r few = omega (arith, few)
+read_needs s.Block r few = omega (arith, few)
+read_needs s.BlockItem r few = omega (arith, few)
+read_needs s.InitDeclarator r few = omega (arith, few)
+read_needs s.Initializer r few = omega (arith, few)
+read_needs s.MemberDeclarator r few = omega (arith, few)
+read_needs s.Width r few = omega (arith, few)
+read_needs s.Members r few = omega (arith, few)
+read_needs s.Enumerators r few = omega (arith, few)
+read_needs s.EnumeratorValue r few = omega (arith, few)
+read_needs s.ElsePart r few = omega (arith, few)
+read_needs _ r few = cc r
+
 -- A declarator that another goes on with is read as one of a sort, with readers of words and literals.
 abbrev pub DeclaratorsRise : ℕ → ℕ → List Shape → Spelling → Sort → Sort → Type 0
 DeclaratorsRise d top w deeper due sub = (n m l : ℕ) (t : Plain) (i k : Spot) → deeper sub m t i k → l ≤ m → EndOff due w m k → Clear due w t k → RisesSo body d w (in_place (suc n)) due l top i t m k
@@ -138,51 +172,53 @@ module _ (d top : ℕ) (w : List Shape) (levels : Type 0) (room : Room levels d 
   loosest due least t i j n N = record { parts = N.parts; value = N.value; may = N.may; tight = omega arith; left = N.left; matches = N.matches }
 
   -- a node where it stands, of each sort
-  at_read : (n : ℕ) → AllRead body d top w n (spelled n) (in_place n) → AllRead body d top w (suc n) (At levels deeper (spelled n) w) (at_sort (in_place n))
-  at_read zero IE s.Exp least t i j r few A o = absurd (omega (arith, few))
-  at_read (suc n) IE s.Exp least t i j r few A o = exp_read body d top w levels room under deeper (spelled (suc n)) (in_place (suc n)) D.begins (IB (suc n)) D.calls (leaf_reads n (suc n)) (literals (suc n)) D.opens (D.exps n) least t i j A o
-  at_read zero IE s.Declarator least t i j r few A o = absurd (omega (arith, few))
-  at_read (suc n) IE s.Declarator least t i j r few A o = with_name.declarator_read body d top w levels room under deeper (spelled (suc n)) (in_place (suc n)) D.begins (IB (suc n)) D.calls (leaf_reads n (suc n)) (declareds (suc n)) D.same no_absent D.named (D.declarators n) least t i j A o
-  at_read zero IE s.AbstractDeclarator least t i j r few A o = absurd (omega (arith, few))
-  at_read (suc n) IE s.AbstractDeclarator least t i j r few A o = without_name.declarator_read body d top w levels room under deeper (spelled (suc n)) (in_place (suc n)) D.begins (IB (suc n)) D.calls (leaf_reads n (suc n)) (declareds (suc n)) D.same D.abstract_there (D.abstracts n) least t i j A o
-  at_read zero IE s.ParamDeclarator least t i j r few A o = absurd (omega (arith, few))
-  at_read (suc n) IE s.ParamDeclarator least t i j r few A o = of_parameter.declarator_read body d top w levels room under deeper (spelled (suc n)) (in_place (suc n)) D.begins (IB (suc n)) D.calls (leaf_reads n (suc n)) (declareds (suc n)) D.same D.parameter_there (D.parameters n) least t i j A o
-  at_read zero IE s.MemberName least t i j r few A o = absurd (omega (arith, few))
-  at_read (suc n) IE s.MemberName least t i j r few A o = of_member.declarator_read body d top w levels room under deeper (spelled (suc n)) (in_place (suc n)) D.begins (IB (suc n)) D.calls (leaf_reads n (suc n)) (declareds (suc n)) D.same no_absent D.named (D.members n) least t i j A o
-  at_read n IE s.Id least t i j r few A o = id_read body d top w t i j A.0 A.1
-  at_read n IE s.DeclaredId least t i j r few A o = declared_read body d top w t i j A.0 A.1
-  at_read n IE s.ParameterId least t i j r few A o = parameter_read body d top w t i j A.0 A.1
-  at_read n IE s.EnumeratorId least t i j r few A o = enumerator_read body d top w t i j A.0 A.1
-  at_read n IE s.Literal least t i j r few A o = literal_read body d top w t i j A.0 A.1
-  at_read n IE s.Spec least t i j r few A o = any_spec_read body d top w levels room n deeper (spelled n) (in_place n) D.begins (IB n) DE IE (omega (arith, few)) least t i j A.0 A.1 o
-  at_read n IE s.PlainSpec least t i j r few A o = plain_spec_read body d top w levels room n deeper (spelled n) (in_place n) D.begins (IB n) DE IE (omega (arith, few)) least t i j A.0 A.1 o
-  at_read n IE s.Qualifier least t i j r few A o = qualifier_read body d top w levels room n deeper (spelled n) (in_place n) D.begins (IB n) DE IE (omega (arith, few)) least t i j A o
-  at_read n IE s.Params least t i j r few A o = params_read body d top w levels room n deeper (spelled n) (in_place n) D.begins (IB n) DE IE (omega (arith, few)) least t i j A.0 A.1 o
-  at_read n IE s.Init least t i j r few A o = init_read body d top w levels room n deeper (spelled n) (in_place n) D.begins (IB n) DE IE (omega (arith, few)) least t i j A o
-  at_read n IE s.Block least t i j r few A o = block_read body d top w levels room n deeper (spelled n) (in_place n) D.begins (IB n) DE IE (omega (arith, few)) least t i j A
-  at_read zero IE s.Stmt least t i j r few A o = absurd (omega (arith, few))
-  at_read (suc n) IE s.Stmt least t i j r few A o = stmt_read body d top w levels room (suc n) deeper (spelled (suc n)) (in_place (suc n)) D.begins (IB (suc n)) DE IE (omega (arith, few)) D.ids (at_word d w n) t i j (loosest s.Stmt least t i j (suc n) A)
-  at_read zero IE s.BlockItem least t i j r few A o = absurd (omega (arith, few))
-  at_read (suc n) IE s.BlockItem least t i j r few (inl A) o = block_item_read body d top w levels room (suc n) deeper (spelled (suc n)) (in_place (suc n)) D.begins (IB (suc n)) DE IE (omega (arith, few)) D.ids (at_word d w n) (at_type d w n) t i j
-      (inl (A.0, loosest s.Decl least t i j (suc n) A.1))
-  at_read (suc n) IE s.BlockItem least t i j r few (inr A) o = block_item_read body d top w levels room (suc n) deeper (spelled (suc n)) (in_place (suc n)) D.begins (IB (suc n)) DE IE (omega (arith, few)) D.ids (at_word d w n) (at_type d w n) t i j
-      (inr (A.0, (loosest s.Stmt least t i A.0 (suc n) A.1.0, A.1.1)))
-  at_read n IE s.TypeName least t i j r few A o = only_read body d top w levels room n deeper (spelled n) (in_place n) D.begins (IB n) DE IE s.TypeName (form.TypeName) least t i j refl refl refl (omega (arith, few)) (type_name_form t.form A.may) A o
-  at_read n IE s.Member least t i j r few A o = only_read body d top w levels room n deeper (spelled n) (in_place n) D.begins (IB n) DE IE s.Member (form.Member) least t i j refl refl refl (omega (arith, few)) (member_form t.form A.may) A o
-  at_read n IE s.Enumerator least t i j r few A o = only_read body d top w levels room n deeper (spelled n) (in_place n) D.begins (IB n) DE IE s.Enumerator (form.Enumerator) least t i j refl refl refl (omega (arith, few)) (enumerator_form t.form A.may) A o
-  at_read n IE s.Param least t i j r few A o = only_read body d top w levels room n deeper (spelled n) (in_place n) D.begins (IB n) DE IE s.Param (form.Param) least t i j refl refl refl (omega (arith, few)) (param_form t.form A.may) A o
-  at_read n IE s.Decl least t i j r few A o = only_read body d top w levels room n deeper (spelled n) (in_place n) D.begins (IB n) DE IE s.Decl (form.Decl) least t i j refl refl refl (omega (arith, few)) (decl_form t.form A.may) A o
-  at_read n IE s.InitDeclarator least t i j r few A o = only_read body d top w levels room n deeper (spelled n) (in_place n) D.begins (IB n) DE IE s.InitDeclarator (form.Group group.InitDeclarator) least t i j refl refl refl (omega (arith, few)) (init_declarator_form t.form A.may) A o
-  at_read n IE s.Initializer least t i j r few A o = only_read body d top w levels room n deeper (spelled n) (in_place n) D.begins (IB n) DE IE s.Initializer (form.Group group.Initializer) least t i j refl refl refl (omega (arith, few)) (initializer_form t.form A.may) A o
-  at_read n IE s.MemberDeclarator least t i j r few A o = only_read body d top w levels room n deeper (spelled n) (in_place n) D.begins (IB n) DE IE s.MemberDeclarator (form.Group group.MemberDeclarator) least t i j refl refl refl (omega (arith, few)) (member_declarator_form t.form A.may) A o
-  at_read n IE s.Width least t i j r few A o = only_read body d top w levels room n deeper (spelled n) (in_place n) D.begins (IB n) DE IE s.Width (form.Group group.Width) least t i j refl refl refl (omega (arith, few)) (width_form t.form A.may) A o
-  at_read n IE s.Members least t i j r few A o = only_read body d top w levels room n deeper (spelled n) (in_place n) D.begins (IB n) DE IE s.Members (form.Group group.Members) least t i j refl refl refl (omega (arith, few)) (members_form t.form A.may) A o
-  at_read n IE s.Enumerators least t i j r few A o = only_read body d top w levels room n deeper (spelled n) (in_place n) D.begins (IB n) DE IE s.Enumerators (form.Group group.Enumerators) least t i j refl refl refl (omega (arith, few)) (enumerators_form t.form A.may) A o
-  at_read n IE s.EnumeratorValue least t i j r few A o = only_read body d top w levels room n deeper (spelled n) (in_place n) D.begins (IB n) DE IE s.EnumeratorValue (form.Group group.EnumeratorValue) least t i j refl refl refl (omega (arith, few)) (enumerator_value_form t.form A.may) A o
-  at_read n IE s.ElsePart least t i j r few A o = only_read body d top w levels room n deeper (spelled n) (in_place n) D.begins (IB n) DE IE s.ElsePart (form.Group group.ElsePart) least t i j refl refl refl (omega (arith, few)) (else_part_form t.form A.may) A o
-  at_read n IE _ least t i j r few A o = absurd (cc r)
+  at_read : (n m : ℕ) → AllRead body d top w n (spelled m) (in_place n) → AllRead body d top w (suc n) (At levels deeper (spelled m) w) (at_sort (in_place n))
+  at_read zero m IE s.Exp least t i j r few A o = absurd (omega (arith, few))
+  at_read (suc n) m IE s.Exp least t i j r few A o = exp_read body d top w levels room under deeper (spelled m) (in_place (suc n)) D.begins (IB m) D.calls (leaf_reads n m) (literals m) D.opens (D.exps n) least t i j A o
+  at_read zero m IE s.Declarator least t i j r few A o = absurd (omega (arith, few))
+  at_read (suc n) m IE s.Declarator least t i j r few A o = with_name.declarator_read body d top w levels room under deeper (spelled m) (in_place (suc n)) D.begins (IB m) D.calls (leaf_reads n m) (declareds m) D.same no_absent D.named (D.declarators n) least t i j A o
+  at_read zero m IE s.AbstractDeclarator least t i j r few A o = absurd (omega (arith, few))
+  at_read (suc n) m IE s.AbstractDeclarator least t i j r few A o = without_name.declarator_read body d top w levels room under deeper (spelled m) (in_place (suc n)) D.begins (IB m) D.calls (leaf_reads n m) (declareds m) D.same D.abstract_there (D.abstracts n) least t i j A o
+  at_read zero m IE s.ParamDeclarator least t i j r few A o = absurd (omega (arith, few))
+  at_read (suc n) m IE s.ParamDeclarator least t i j r few A o = of_parameter.declarator_read body d top w levels room under deeper (spelled m) (in_place (suc n)) D.begins (IB m) D.calls (leaf_reads n m) (declareds m) D.same D.parameter_there (D.parameters n) least t i j A o
+  at_read zero m IE s.MemberName least t i j r few A o = absurd (omega (arith, few))
+  at_read (suc n) m IE s.MemberName least t i j r few A o = of_member.declarator_read body d top w levels room under deeper (spelled m) (in_place (suc n)) D.begins (IB m) D.calls (leaf_reads n m) (declareds m) D.same no_absent D.named (D.members n) least t i j A o
+  at_read n m IE s.Id least t i j r few A o = id_read body d top w t i j A.0 A.1
+  at_read n m IE s.DeclaredId least t i j r few A o = declared_read body d top w t i j A.0 A.1
+  at_read n m IE s.ParameterId least t i j r few A o = parameter_read body d top w t i j A.0 A.1
+  at_read n m IE s.EnumeratorId least t i j r few A o = enumerator_read body d top w t i j A.0 A.1
+  at_read n m IE s.Literal least t i j r few A o = literal_read body d top w t i j A.0 A.1
+  at_read n m IE s.Spec least t i j r few A o = any_spec_read body d top w levels room n deeper (spelled m) (in_place n) D.begins (IB m) DE IE (omega (arith, few)) least t i j A.0 A.1 o
+  at_read n m IE s.PlainSpec least t i j r few A o = plain_spec_read body d top w levels room n deeper (spelled m) (in_place n) D.begins (IB m) DE IE (omega (arith, few)) least t i j A.0 A.1 o
+  at_read n m IE s.Qualifier least t i j r few A o = qualifier_read body d top w levels room n deeper (spelled m) (in_place n) D.begins (IB m) DE IE (omega (arith, few)) least t i j A o
+  at_read n m IE s.Params least t i j r few A o = params_read body d top w levels room n deeper (spelled m) (in_place n) D.begins (IB m) DE IE (omega (arith, few)) least t i j A.0 A.1 o
+  at_read n m IE s.Init least t i j r few A o = init_read body d top w levels room n deeper (spelled m) (in_place n) D.begins (IB m) DE IE (omega (arith, few)) least t i j A o
+  at_read n m IE s.Block least t i j r few A o = block_read body d top w levels room n deeper (spelled m) (in_place n) D.begins (IB m) DE IE (omega (arith, few)) least t i j A
+  at_read zero m IE s.Stmt least t i j r few A o = absurd (omega (arith, few))
+  at_read (suc n) m IE s.Stmt least t i j r few A o = stmt_read body d top w levels room (suc n) deeper (spelled m) (in_place (suc n)) D.begins (IB m) DE IE (omega (arith, few)) D.ids (at_word d w n) t i j (loosest s.Stmt least t i j m A)
+  at_read zero m IE s.BlockItem least t i j r few A o = absurd (omega (arith, few))
+  at_read (suc n) m IE s.BlockItem least t i j r few (inl A) o = block_item_read body d top w levels room (suc n) deeper (spelled m) (in_place (suc n)) D.begins (IB m) DE IE (omega (arith, few)) D.ids (at_word d w n) (at_type d w n) t i j
+      (inl (A.0, loosest s.Decl least t i j m A.1))
+  at_read (suc n) m IE s.BlockItem least t i j r few (inr A) o = block_item_read body d top w levels room (suc n) deeper (spelled m) (in_place (suc n)) D.begins (IB m) DE IE (omega (arith, few)) D.ids (at_word d w n) (at_type d w n) t i j
+      (inr (A.0, (loosest s.Stmt least t i A.0 m A.1.0, A.1.1)))
+  at_read n m IE s.TypeName least t i j r few A o = only_read body d top w levels room n deeper (spelled m) (in_place n) D.begins (IB m) DE IE s.TypeName (form.TypeName) least t i j refl refl refl (omega (arith, few)) (type_name_form t.form A.may) A o
+  at_read n m IE s.Member least t i j r few A o = only_read body d top w levels room n deeper (spelled m) (in_place n) D.begins (IB m) DE IE s.Member (form.Member) least t i j refl refl refl (omega (arith, few)) (member_form t.form A.may) A o
+  at_read n m IE s.Enumerator least t i j r few A o = only_read body d top w levels room n deeper (spelled m) (in_place n) D.begins (IB m) DE IE s.Enumerator (form.Enumerator) least t i j refl refl refl (omega (arith, few)) (enumerator_form t.form A.may) A o
+  at_read n m IE s.Param least t i j r few A o = only_read body d top w levels room n deeper (spelled m) (in_place n) D.begins (IB m) DE IE s.Param (form.Param) least t i j refl refl refl (omega (arith, few)) (param_form t.form A.may) A o
+  at_read n m IE s.Decl least t i j r few A o = only_read body d top w levels room n deeper (spelled m) (in_place n) D.begins (IB m) DE IE s.Decl (form.Decl) least t i j refl refl refl (omega (arith, few)) (decl_form t.form A.may) A o
+  at_read n m IE s.InitDeclarator least t i j r few A o = only_read body d top w levels room n deeper (spelled m) (in_place n) D.begins (IB m) DE IE s.InitDeclarator (form.Group group.InitDeclarator) least t i j refl refl refl (omega (arith, few)) (init_declarator_form t.form A.may) A o
+  at_read n m IE s.Initializer least t i j r few A o = only_read body d top w levels room n deeper (spelled m) (in_place n) D.begins (IB m) DE IE s.Initializer (form.Group group.Initializer) least t i j refl refl refl (omega (arith, few)) (initializer_form t.form A.may) A o
+  at_read n m IE s.MemberDeclarator least t i j r few A o = only_read body d top w levels room n deeper (spelled m) (in_place n) D.begins (IB m) DE IE s.MemberDeclarator (form.Group group.MemberDeclarator) least t i j refl refl refl (omega (arith, few)) (member_declarator_form t.form A.may) A o
+  at_read n m IE s.Width least t i j r few A o = only_read body d top w levels room n deeper (spelled m) (in_place n) D.begins (IB m) DE IE s.Width (form.Group group.Width) least t i j refl refl refl (omega (arith, few)) (width_form t.form A.may) A o
+  at_read n m IE s.Members least t i j r few A o = only_read body d top w levels room n deeper (spelled m) (in_place n) D.begins (IB m) DE IE s.Members (form.Group group.Members) least t i j refl refl refl (omega (arith, few)) (members_form t.form A.may) A o
+  at_read n m IE s.Enumerators least t i j r few A o = only_read body d top w levels room n deeper (spelled m) (in_place n) D.begins (IB m) DE IE s.Enumerators (form.Group group.Enumerators) least t i j refl refl refl (omega (arith, few)) (enumerators_form t.form A.may) A o
+  at_read n m IE s.EnumeratorValue least t i j r few A o = only_read body d top w levels room n deeper (spelled m) (in_place n) D.begins (IB m) DE IE s.EnumeratorValue (form.Group group.EnumeratorValue) least t i j refl refl refl (omega (arith, few)) (enumerator_value_form t.form A.may) A o
+  at_read n m IE s.ElsePart least t i j r few A o = only_read body d top w levels room n deeper (spelled m) (in_place n) D.begins (IB m) DE IE s.ElsePart (form.Group group.ElsePart) least t i j refl refl refl (omega (arith, few)) (else_part_form t.form A.may) A o
+  at_read n m IE _ least t i j r few A o = absurd (cc r)
 
-  pub in_place_read : (n : ℕ) → AllRead body d top w n (spelled n) (in_place n)
+  -- nodes that lie in so many are read where more may lie in one another
+  pub in_place_read : (n m : ℕ) → AllRead body d top w n (spelled m) (in_place n)
   unfolding InPlace in_place
-  in_place_read zero due least t i j r few A o = absurd A
-  in_place_read (suc n) due least t i j r few A o = at_read n (in_place_read n) due least t i j r few A o
+  in_place_read n zero due least t i j r few A o = absurd A
+  in_place_read zero (suc m) due least t i j r few A o = absurd (read_needs due r few)
+  in_place_read (suc n) (suc m) due least t i j r few A o = at_read n m (in_place_read n m) due least t i j r few A o
