@@ -267,3 +267,13 @@ stmt_is (form.Item item.Function) m = absurd (cc m)
 stmt_is (form.Template (template.Many k)) m = absurd (cc m)
 stmt_is (form.Group group.List) m = absurd (cc m)
 stmt_is _ m = absurd (cc m)
+
+pub item_is : (f : Form) → may_be s.Item f ≡ true → (f ≡ form.Item item.Function) ⊎ (f ≡ form.Item item.Declaration)
+item_is (form.Item item.Function) m = inl refl
+item_is (form.Item item.Declaration) m = inr refl
+item_is (form.Exp (exp.Int w)) m = absurd (cc m)
+item_is (form.Spec (spec.Storage c)) m = absurd (cc m)
+item_is (form.Stmt stmt.Block) m = absurd (cc m)
+item_is (form.Template (template.Many k)) m = absurd (cc m)
+item_is (form.Group group.List) m = absurd (cc m)
+item_is _ m = absurd (cc m)

@@ -24,3 +24,4 @@ mod Blocks
 mod AtFirst
 mod Sorts
 mod Depths
+mod Items

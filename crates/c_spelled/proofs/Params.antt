@@ -59,7 +59,7 @@ is_ids_form (form.Params params.Ids) = true
 is_ids_form f = false
 
 -- elements are some
-chain_some : (one : Plain → Spot → Spot → Type 0) (w : List Shape) (c : Option Class) (n : ℕ) (ts : List Plain) (i j : Spot) → Chain one w c n ts i j → is_none (forest ts) ≡ false
+pub chain_some : (one : Plain → Spot → Spot → Type 0) (w : List Shape) (c : Option Class) (n : ℕ) (ts : List Plain) (i j : Spot) → Chain one w c n ts i j → is_none (forest ts) ≡ false
 chain_some one w c zero ts i j C = ap (λ ts. is_none (forest ts)) C.1.0
 chain_some one w c (suc n) ts i j C = ap (λ ts. is_none (forest ts)) C.value ∙ by_front C.before
   where
