@@ -52,17 +52,24 @@ use Rattle.c_spelled.proofs.Params.{chain_some}
 use Rattle.c_spelled.proofs.Alone.{item_is, decl_form, init_declarator_form}
 use Rattle.c_spelled.proofs.Climb.{called_read}
 
-abbrev the_function : Form
+abbrev pub the_function : Form
 the_function = form.Item item.Function
 
-abbrev declares : Form
+abbrev pub declares : Form
 declares = form.Item item.Declaration
 
 abbrev init_form : Form
 init_form = form.Group group.InitDeclarator
 
-abbrev comma : Class
+abbrev pub comma : Class
 comma = sign punct.Comma
+
+-- after specifiers and a declarator, or a list of them
+abbrev pub after_head : List Piece
+after_head = after_first (after_first (pieces the_function))
+
+abbrev pub after_list : List Piece
+after_list = after_first (after_first (pieces form.Decl))
 
 -- what goes on with a declaration
 abbrev declaring : Classes
@@ -91,7 +98,7 @@ module _ (d top : ℕ) (w : List Shape) (levels : Type 0) (room : Room levels d 
   abbrev IS : (n : ℕ) → AllSame (spelled n)
   IS n = in_place_same n levels deeper w D.same
 
-  sort_begins : (n : ℕ) (due : Sort) (least : ℕ) → is_read due ≡ true → may_be_empty due ≡ false → (t : Plain) (i j : Spot) → spelled n due least t i j → (has (starts due) (class_at w i) ≡ true) × (i.place < j.place)
+  pub sort_begins : (n : ℕ) (due : Sort) (least : ℕ) → is_read due ≡ true → may_be_empty due ≡ false → (t : Plain) (i j : Spot) → spelled n due least t i j → (has (starts due) (class_at w i) ≡ true) × (i.place < j.place)
   sort_begins n due least r e t i j p = elim (IB n due least t i j r p) [ | inl b ↦ b | inr x ↦ absurd (contrary (may_be_empty due) x.0 e) ]
 
   sort_read : (n : ℕ) (due : Sort) (least : ℕ) → is_read due ≡ true → need due ≤ 8 → (t : Plain) (i j : Spot) → spelled n due least t i j → Off (goes_on due least) w j.place → Got (read body d (part due least) (from w i)) top t w j
@@ -99,7 +106,7 @@ module _ (d top : ℕ) (w : List Shape) (levels : Type 0) (room : Room levels d 
 
   -- ---- specifiers
 
-  specs_read : (m : ℕ) (us : List Plain) (i k : Spot) → IsGroup All s.Spec (spelled m s.Spec 0) Usual w us i k → Off (goes_on s.Spec 0) w k.place
+  pub specs_read : (m : ℕ) (us : List Plain) (i k : Spot) → IsGroup All s.Spec (spelled m s.Spec 0) Usual w us i k → Off (goes_on s.Spec 0) w k.place
       → (h : ℕ) × ((h ≤ top) × (read body d (grouped All s.Spec (part s.Spec 0) Usual) (from w i) ≡ Ok (list_from i.place (listed us h k.place false), from w k)))
   unfolding gathered
   specs_read m us i k G o =
@@ -107,11 +114,11 @@ module _ (d top : ℕ) (w : List Shape) (levels : Type 0) (room : Room levels d 
           group_read body d top w s.Spec 0 (spelled m s.Spec 0) (part s.Spec 0) (sort_begins m s.Spec 0 refl refl) (sort_read m s.Spec 0 refl (omega arith)) All Usual us i k refl refl G o (λ _ _. refl) in
       (A.height, (A.low, ap (λ (o : Outcome Gathered). and_then (and_then {A = Gathered} {B = ℕ × Gathered} o (λ g j. Ok ((i.place, g), j))) (λ g j. Ok (list_from g.0 g.1, j))) A.reads))
 
-  at_external : (i : Spot) (b : Bool) → has (starts s.Spec) (class_at w i) ≡ b → read body d (external part) (from w i) ≡ read body d (choose b (specified part i.place) (unspecified part i.place)) (from w i)
+  pub at_external : (i : Spot) (b : Bool) → has (starts s.Spec) (class_at w i) ≡ b → read body d (external part) (from w i) ≡ read body d (choose b (specified part i.place) (unspecified part i.place)) (from w i)
   unfolding external
   at_external i b e = ap (λ b. read body d (choose b (specified part i.place) (unspecified part i.place)) (from w i)) e
 
-  after_specs : (i k : Spot) (specs : Found) (b : Bool) → read body d (grouped All s.Spec (part s.Spec 0) Usual) (from w i) ≡ Ok (specs, from w k) → is_sign punct.Semicolon (seen_at w k) ≡ b
+  pub after_specs : (i k : Spot) (specs : Found) (b : Bool) → read body d (grouped All s.Spec (part s.Spec 0) Usual) (from w i) ≡ Ok (specs, from w k) → is_sign punct.Semicolon (seen_at w k) ≡ b
       → read body d (specified part i.place) (from w i) ≡ read body d (choose b (declaration_of part i.place specs (list_from k.place (none_at k.place))) (outer part i.place specs)) (from w k)
   after_specs i k specs b r e = ap (λ o. and_then o (λ specs j. read body d (Ask (λ j. Look (λ y. choose (is_sign punct.Semicolon y) (declaration_of part i.place specs (list_from j.place (none_at j.place))) (outer part i.place specs)))) j)) r
       ∙ ap (λ b. read body d (choose b (declaration_of part i.place specs (list_from k.place (none_at k.place))) (outer part i.place specs)) (from w k)) e
@@ -122,15 +129,12 @@ module _ (d top : ℕ) (w : List Shape) (levels : Type 0) (room : Room levels d 
 
   -- ---- functions
 
-  abbrev after_head : List Piece
-  after_head = after_first (after_first (pieces the_function))
-
   not_declaring : (p : Spot) → Off declaring w p.place → goes_on_declaring (seen_at w p) ≡ false
   not_declaring p o = or_from (is_sign punct.Comma (seen_at w p)) _ (is_not w comma p (off_within (class_number comma ∷ []) declaring w p.place refl o))
       (or_from (is_sign punct.Semicolon (seen_at w p)) _ (is_not w (sign punct.Semicolon) p (off_within (class_number (sign punct.Semicolon) ∷ []) declaring w p.place refl o))
       (is_not w (sign punct.Equal) p (off_within (class_number (sign punct.Equal) ∷ []) declaring w p.place refl o)))
 
-  function_read : (o : ℕ) (specs : Found) (others : List Plain) (k j : Spot) → specs.height ≤ top → Parted (spelled 8 s.Declarator 1) (λ t. Matches (spelled 8) w s.Item the_function (before_by (is_absent t)) after_head) others k j
+  pub function_read : (o : ℕ) (specs : Found) (others : List Plain) (k j : Spot) → specs.height ≤ top → Parted (spelled 8 s.Declarator 1) (λ t. Matches (spelled 8) w s.Item the_function (before_by (is_absent t)) after_head) others k j
       → Got (read body d (outer part o specs) (from w k)) top (forests.node the_function (spanned o j.place) (specs.tree ∷ others)) w j
   function_read o specs others k j low M =
       let p : Spot = M.place in
@@ -148,10 +152,7 @@ module _ (d top : ℕ) (w : List Shape) (levels : Type 0) (room : Room levels d 
 
   -- ---- declarations
 
-  abbrev after_list : List Piece
-  after_list = after_first (after_first (pieces form.Decl))
-
-  decl_end : (o : ℕ) (specs list : Found) (ts : List Plain) (m j : Spot) → specs.height ≤ top → list.height ≤ top → Matches (spelled 7) w s.Decl form.Decl Usual after_list ts m j
+  pub decl_end : (o : ℕ) (specs list : Found) (ts : List Plain) (m j : Spot) → specs.height ≤ top → list.height ≤ top → Matches (spelled 7) w s.Decl form.Decl Usual after_list ts m j
       → Got (read body d (declaration_of part o specs list) (from w m)) top (forests.node declares (spanned o j.place) (forests.node form.Decl (spanned o j.place) (specs.tree ∷ (list.tree ∷ ts)) ∷ [])) w j
   decl_end o specs list ts m j low low' M =
       let P = the_parts body d top w levels room 8 deeper (spelled 7) part D.begins (IB 7) DE (IE 7) s.Decl form.Decl after_list ts m j refl (omega arith) refl (λ _. refl) M in
@@ -162,7 +163,7 @@ module _ (d top : ℕ) (w : List Shape) (levels : Type 0) (room : Room levels d 
   unfolding InPlace
   init_node t i j A = A
 
-  decl_node : (t : Plain) (i j : Spot) → spelled 8 s.Decl 0 t i j → IsNode levels deeper (spelled 7) w s.Decl 0 t i j
+  pub decl_node : (t : Plain) (i j : Spot) → spelled 8 s.Decl 0 t i j → IsNode levels deeper (spelled 7) w s.Decl 0 t i j
   unfolding InPlace
   decl_node t i j A = A
 
@@ -170,7 +171,7 @@ module _ (d top : ℕ) (w : List Shape) (levels : Type 0) (room : Room levels d 
   is_declaring p q h r = ap (λ x. goes_on_declaring (seen p.state x)) r ∙ h
 
   -- the declarators, from the first on
-  declarators_read : (o : ℕ) (specs : Found) (vs ts : List Plain) (k m j : Spot) → specs.height ≤ top → k.state.kept.is_function_due ≡ false → Elements (spelled 7 s.InitDeclarator 0) w (Some comma) vs k m → Matches (spelled 7) w s.Decl form.Decl Usual after_list ts m j
+  pub declarators_read : (o : ℕ) (specs : Found) (vs ts : List Plain) (k m j : Spot) → specs.height ≤ top → k.state.kept.is_function_due ≡ false → Elements (spelled 7 s.InitDeclarator 0) w (Some comma) vs k m → Matches (spelled 7) w s.Decl form.Decl Usual after_list ts m j
       → Got (read body d (outer part o specs) (from w k)) top (forests.node declares (spanned o j.place) (forests.node form.Decl (spanned o j.place) (specs.tree ∷ (forests.node the_list (spanned k.place m.place) vs ∷ ts)) ∷ [])) w j
   declarators_read o specs vs ts k m j low flag C M =
       let semicolon : On (class_number (sign punct.Semicolon) ∷ []) w m.place = on_here (class_number (sign punct.Semicolon) ∷ []) w m (single (class_number (sign punct.Semicolon)) (class_at w m) M.0) in

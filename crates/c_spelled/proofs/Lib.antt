@@ -25,3 +25,5 @@ mod AtFirst
 mod Sorts
 mod Depths
 mod Items
+pub mod Complete
+pub mod Unique
