@@ -1,5 +1,5 @@
 -- How the readers of expressions and of specifiers begin at a word.
-use Rattle.std.proofs.Common.{◌≡◌, ◌⊎◌, inl, inr, refl, subst, ap, sym, ◌∙◌, ℕ, zero, suc, ◌+◌, ◌<◌, ◌≤◌, max, not, nat_lt, Bool, true, false, ◌||◌, ◌&&◌, List, [], ◌∷◌, nat_eq, Option, Some, None, Ok, Err, arith}
+use Rattle.std.proofs.Common.{◌≡◌, ap, sym, ◌∙◌, ℕ, suc, Bool, true, false, ◌||◌, List, nat_eq, Ok}
 use Rattle.c_tokens.specs.declared.token.Word.{Word}
 use Rattle.c_tokens.specs.declared.token.Shape.{Shape}
 use Rattle.c_tokens.specs.declared.token.Shape.TheVariants as shape
@@ -9,15 +9,14 @@ use Rattle.c_forms.specs.declared.pieces.Sort.TheVariants as s
 use Rattle.c_forms.specs.declared.forms.Form.TheVariants as form
 use Rattle.c_forms.specs.declared.forms.SpecForm.TheVariants as spec
 use Rattle.c_forms.specs.declared.forms.ExpForm.TheVariants as exp
-use Rattle.c_forms.specs.Sets.{has, starts, held_class, type_word}
+use Rattle.c_forms.specs.Sets.{has, starts, type_word}
 use Rattle.c_forms.specs.Tokens.{begun}
-use Rattle.c_reader.specs.States.{State, class as class_in, happens}
-use Rattle.c_reader.specs.Tokens.{Spot, step, turned, raw_at, seen_at, class_at}
+use Rattle.c_reader.specs.States.{happens}
+use Rattle.c_reader.specs.Tokens.{Spot, step, turned, raw_at, class_at}
 use Rattle.c_reader.specs.Readers.{Input, Found, Outcome, read, and_then, pick, only, choose, Refuse}
 use Rattle.c_reader.proofs.Local.{from}
 use Rattle.c_reader.proofs.Loops.{same_answer, same_place}
 use Rattle.c_reader.proofs.Seen.{seen_word, seen_type}
-use Rattle.c_reader.proofs.Sets.{itself}
 use Rattle.c_syntax.specs.Allowed.{may_stand}
 use Rattle.c_syntax.specs.Reading.{nothing, node, joined, pieces_in, completed}
 use Rattle.c_syntax.specs.Grammar.{Standing, entered, sized, begun_by, spec_of, name_leaf, typedef_leaf, whole, primary, expression, climb, specifier, specifier_by, in_place, body}

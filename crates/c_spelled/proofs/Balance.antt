@@ -1,5 +1,5 @@
 -- What was put aside stands there again after a tree, and so does whether a function is due.
-use Rattle.std.proofs.Common.{◌≡◌, ◌⊎◌, inl, inr, refl, subst, ap, sym, ◌∙◌, ℕ, zero, suc, ◌+◌, ◌-◌, ◌<◌, ◌≤◌, not, Bool, true, false, ◌||◌, ◌&&◌, List, [], ◌∷◌, ◌++◌, nat_eq, Option, Some, None, arith}
+use Rattle.std.proofs.Common.{◌≡◌, inl, inr, refl, subst, ap, sym, ◌∙◌, ℕ, zero, suc, ◌-◌, not, Bool, true, false, ◌||◌, ◌&&◌, List, [], ◌∷◌, nat_eq, Option, Some, None, arith}
 use Rattle.c_tokens.specs.declared.token.Shape.{Shape}
 use Rattle.c_tokens.specs.declared.class.Class.{Class}
 use Rattle.c_forms.specs.declared.pieces.Event.{Event}
@@ -14,14 +14,14 @@ use Rattle.c_forms.specs.declared.forms.Form.{Form}
 use Rattle.c_forms.specs.Forests.{Plain}
 use Rattle.c_forms.specs.Measures.{pieces}
 use Rattle.c_forms.specs.Rules.{is_none}
-use Rattle.c_reader.specs.States.{State, Kept, happens, noted, top, under}
+use Rattle.c_reader.specs.States.{Kept, happens, noted, top, under}
 use Rattle.c_reader.specs.Tokens.{Spot, step, turned, raw_at}
 use Rattle.c_reader.proofs.Sets.{both, same_class}
 use Rattle.c_syntax.specs.Allowed.{places}
 use Rattle.c_syntax.specs.Reading.{Before, Usual, before_by, is_absent, inside, is_starred}
-use Rattle.c_syntax.specs.Spells.{Spelling, nothing_spelled, Separated, Chain, Absent, Once, IsGroup, Matches, parts_spelled, IsNode, Wraps, wrapped_sort, may_be, At, InPlace, Spells}
-use Rattle.c_spelled.specs.Fitting.{is_read, reads, keeps, keeps_on, is_kept, is_balanced, begins_so, row_fits}
-use Rattle.c_spelled.proofs.Begins.{Row, row_of}
+use Rattle.c_syntax.specs.Spells.{Spelling, nothing_spelled, Separated, Chain, IsGroup, Matches, parts_spelled, IsNode, Wraps, wrapped_sort, At, InPlace, Spells}
+use Rattle.c_spelled.specs.Fitting.{is_read, reads, keeps, keeps_on, is_kept, is_balanced, begins_so}
+use Rattle.c_spelled.proofs.Begins.{row_of}
 use Rattle.c_spelled.proofs.Rows.{has_row, rows}
 
 -- what stands aside ends as it stood, with so many put on it since, and as it stood a function is due
@@ -174,7 +174,7 @@ module _ (levels : Type 0) (deeper inner : Spelling) (w : List Shape) (D : AllSa
   node_same : (due : Sort) (least : ℕ) (t : Plain) (i j : Spot) → has_row due ≡ true → IsNode levels deeper inner w due least t i j → Same (keeps due) i j
   node_same due least t i j h N = let b = (both (begins_so due t.form) _ (both (begins_so due t.form && is_balanced (keeps due) due 0 (pieces t.form)) _ (rows due t.form h N.may)).0).1 in
       held_through w (parts_spelled (is_starred t.form) deeper inner) (choose_same (is_starred t.form) deeper inner D I) (keeps due) due t.form Usual 0 (pieces t.form) N.parts i.state.aside i.state.kept.is_function_due i j
-          (row_of due t.form h N.may).reads b (refl, λ _. refl) N.matches
+      (row_of due t.form h N.may).reads b (refl, λ _. refl) N.matches
 
   parens_same : (due : Sort) (t : Plain) (i j : Spot) → is_read (wrapped_sort due) ≡ true → (keeps due ≡ true → keeps (wrapped_sort due) ≡ true) → Wraps levels deeper w due t i j → Same (keeps due) i j
   parens_same due t i j r k W = let S = D (wrapped_sort due) 1 t (step i) W.last r W.within in

@@ -1,9 +1,7 @@
 -- What spells a tree begins with a class of its sort, or has no token.
-use Rattle.std.proofs.Common.{◌≡◌, ◌⊎◌, inl, inr, refl, subst, ap, sym, ◌∙◌, ℕ, zero, suc, ◌+◌, ◌<◌, ◌≤◌, not, Bool, true, false, ◌||◌, ◌&&◌, List, [], ◌∷◌, ◌++◌, nat_eq, if◌then◌else◌, arith}
-use Rattle.c_tokens.specs.declared.token.Word.{Word}
+use Rattle.std.proofs.Common.{◌≡◌, ◌⊎◌, inl, inr, refl, subst, ap, sym, ◌∙◌, ℕ, zero, suc, ◌+◌, ◌<◌, ◌≤◌, not, Bool, true, false, ◌&&◌, List, [], if◌then◌else◌, arith}
 use Rattle.c_tokens.specs.declared.token.Punct.TheVariants as punct
 use Rattle.c_tokens.specs.declared.token.Shape.{Shape}
-use Rattle.c_tokens.specs.declared.token.Shape.TheVariants as shape
 use Rattle.c_tokens.specs.declared.class.Class.TheVariants as class
 use Rattle.c_tokens.specs.ClassNumbers.{class_number}
 use Rattle.c_forms.specs.declared.pieces.Sort.{Sort}
@@ -12,15 +10,15 @@ use Rattle.c_forms.specs.declared.forms.Form.{Form}
 use Rattle.c_forms.specs.Forests.{Plain}
 use Rattle.c_forms.specs.Forests as forests
 use Rattle.c_forms.specs.Measures.{pieces}
-use Rattle.c_forms.specs.Sets.{Classes, has, within, starts, may_be_empty}
-use Rattle.c_reader.specs.States.{State, class as class_in, is_type, word_class}
-use Rattle.c_reader.specs.Tokens.{Spot, step, turned, raw_at, class_at}
+use Rattle.c_forms.specs.Sets.{has, within, starts, may_be_empty}
+use Rattle.c_reader.specs.States.{class as class_in, is_type, word_class}
+use Rattle.c_reader.specs.Tokens.{Spot, step, raw_at, class_at}
 use Rattle.c_syntax.specs.Allowed.{places}
 use Rattle.c_syntax.specs.Reading.{Usual, is_absent, is_starred, spanned}
-use Rattle.c_syntax.specs.Spells.{Spelling, nothing_spelled, Is, parts_spelled, IsNode, Wraps, wrapped_sort, may_be, AnyWord, ValueWord, IsLiteral, At, InPlace, Spells}
+use Rattle.c_syntax.specs.Spells.{Spelling, nothing_spelled, parts_spelled, IsNode, Wraps, wrapped_sort, may_be, AnyWord, At, InPlace, Spells}
 use Rattle.c_reader.proofs.Sets.{both, not_true, within_has, has_left, has_right}
-use Rattle.c_spelled.specs.Fitting.{is_read, is_nameless, opens, blank, is_calm, reads, begins_so, row_fits, blank_fits, keeps, is_balanced}
-use Rattle.c_spelled.proofs.Opens.{Begun, Starts, Opened, Blank, starts_so}
+use Rattle.c_spelled.specs.Fitting.{is_read, is_nameless, opens, blank, is_calm, reads, begins_so, blank_fits, keeps, is_balanced}
+use Rattle.c_spelled.proofs.Opens.{Begun, starts_so}
 use Rattle.c_spelled.proofs.Rows.{has_row, rows}
 
 -- all trees of a spelling begin so

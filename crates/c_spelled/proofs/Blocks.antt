@@ -1,54 +1,36 @@
 -- What spells a declaration or a statement of a block is read (ISO/IEC 9899:1990, 6.6.2).
-use Rattle.std.proofs.Common.{◌≡◌, ◌⊎◌, inl, inr, refl, subst, ap, sym, ◌∙◌, ℕ, zero, suc, ◌+◌, ◌-◌, ◌<◌, ◌≤◌, max, not, nat_lt, Bool, true, false, ◌||◌, ◌&&◌, List, length, [], ◌∷◌, ◌++◌, nat_eq, Option, Some, None, Ok, Err, arith}
-use Rattle.std.proofs.lemmas.Bool.{lt-ltb, eq-eqb, and_from, or_left, or_right}
-use borrow.Author.Tests.{ltb-true, ltb-false}
-use Rattle.c_tokens.specs.declared.token.Key.TheVariants as key
-use Rattle.c_tokens.specs.declared.token.Punct.{Punct}
+use Rattle.std.proofs.Common.{◌≡◌, ◌⊎◌, inl, inr, refl, subst, ap, sym, ◌∙◌, ℕ, ◌+◌, ◌<◌, ◌≤◌, not, Bool, true, false, ◌||◌, ◌&&◌, List, [], ◌∷◌, nat_eq, Ok, Err, arith}
+use Rattle.std.proofs.lemmas.Bool.{and_from}
 use Rattle.c_tokens.specs.declared.token.Punct.TheVariants as punct
 use Rattle.c_tokens.specs.declared.token.Shape.{Shape}
 use Rattle.c_tokens.specs.declared.token.Shape.TheVariants as shape
-use Rattle.c_tokens.specs.declared.class.Class.{Class}
 use Rattle.c_tokens.specs.declared.class.Class.TheVariants as class
 use Rattle.c_tokens.specs.ClassNumbers.{class_number}
 use Rattle.c_forms.specs.declared.pieces.Event.TheVariants as event
-use Rattle.c_forms.specs.declared.pieces.Sort.{Sort}
 use Rattle.c_forms.specs.declared.pieces.Sort.TheVariants as s
 use Rattle.c_forms.specs.declared.pieces.Piece.{Piece}
-use Rattle.c_forms.specs.declared.forms.Form.{Form}
 use Rattle.c_forms.specs.declared.forms.Form.TheVariants as form
-use Rattle.c_forms.specs.declared.forms.ExpForm.{ExpForm}
-use Rattle.c_forms.specs.declared.forms.ExpForm.TheVariants as exp
-use Rattle.c_forms.specs.declared.forms.SpecForm.TheVariants as spec
-use Rattle.c_forms.specs.declared.forms.StmtForm.TheVariants as stmt
-use Rattle.c_forms.specs.declared.forms.ItemForm.TheVariants as item
-use Rattle.c_forms.specs.declared.forms.TemplateForm.TheVariants as template
-use Rattle.c_forms.specs.declared.forms.GroupForm.TheVariants as group
 use Rattle.c_forms.specs.Forests.{Plain}
 use Rattle.c_forms.specs.Forests as forests
-use Rattle.c_forms.specs.Measures.{level, pieces}
-use Rattle.c_forms.specs.Tokens.{begun, continued}
-use Rattle.c_forms.specs.Sets.{Classes, has, within, starts, goes_on, all_puncts}
-use Rattle.c_reader.specs.States.{State, seen, class as class_in, happens}
-use Rattle.c_reader.specs.Tokens.{Spot, spot, step, turned, raw_at, seen_at, class_at}
-use Rattle.c_reader.specs.Readers.{Input, Reader, Found, Outcome, Body, Rule, Of, Opened, Give, Refuse, Look, Next, Pick, Bind, Fits, Call, Ask, Change, read, below, and_then, choose, when, pick, only, ◌>>=◌, ◌>>◌, token}
+use Rattle.c_forms.specs.Measures.{pieces}
+use Rattle.c_forms.specs.Sets.{Classes, has, starts, goes_on}
+use Rattle.c_reader.specs.States.{class as class_in, happens}
+use Rattle.c_reader.specs.Tokens.{Spot, step, turned, raw_at, seen_at, class_at}
+use Rattle.c_reader.specs.Readers.{Input, Reader, Found, Body, Refuse, read, and_then, choose, ◌>>=◌}
 use Rattle.c_reader.proofs.Local.{from}
-use Rattle.c_reader.proofs.Sets.{both, not_true, contrary, itself, single, only_single, same_class, either}
+use Rattle.c_reader.proofs.Sets.{both, same_class, either}
 use Rattle.c_syntax.specs.Allowed.{places}
-use Rattle.c_syntax.specs.Reading.{Listed, Parts, nothing, one, node, deeper as deeper_one, called, parts_of, is_starred, spanned, is_class, Usual, joined, height_over, completed}
-use Rattle.c_syntax.specs.Grammar.{late, typedef_leaf, type_led, type_first, declaration_at, block_item, is_type_word, is_word, is_value, label, name_leaf, id_leaf, word_led, worded, statement_by, statement, after_part, Standing, standing, sign, is_sign, begins, left_level, after_first, after_paren, may_follow, is_tail, continued_by, tight, whole, type_or, entered, sized, sized_opened, begun_by, primary, expression, opened, parenthesized, climb}
-use Rattle.c_syntax.specs.Spells.{Spelling, Is, Matches, Levels, parts_spelled, IsNode, Wraps, may_be, AnyWord, Parted}
-use Rattle.c_spelled.specs.Fitting.{opens, is_read, reads, follows, fitting, blank, need, needs, bound, is_leveled, is_typed_list, is_apt, unapt, loose, prefix, operands_fit}
-use Rattle.c_spelled.proofs.Off.{Off, on_here, off, off_both, off_left, off_right}
-use Rattle.c_spelled.proofs.Opens.{Begun, starts_so}
+use Rattle.c_syntax.specs.Reading.{Parts, one, called, is_starred, spanned, Usual, completed}
+use Rattle.c_syntax.specs.Grammar.{late, typedef_leaf, type_led, type_first, declaration_at, block_item, label, id_leaf, word_led, statement, after_part, is_sign, after_first, whole}
+use Rattle.c_syntax.specs.Spells.{Spelling, Is, Matches, parts_spelled, IsNode, AnyWord}
+use Rattle.c_spelled.specs.Fitting.{opens, need, is_typed_list}
+use Rattle.c_spelled.proofs.Off.{Off, off}
+use Rattle.c_spelled.proofs.Opens.{starts_so}
 use Rattle.c_spelled.proofs.Begins.{AllBegin}
 use Rattle.c_spelled.proofs.Groups.{Got}
-use Rattle.c_spelled.proofs.Pieces.{AllRead, GotParts, is_it, is_not}
-use Rattle.c_spelled.proofs.Shapes.{is_punct, is_key}
-use Rattle.c_spelled.proofs.Nodes.{Room, Parts_match, off_within, same_got, whole_read, the_parts, complete_node}
-use Rattle.c_spelled.proofs.Levels.{off_unapt, off_operator}
-use Rattle.c_forms.specs.declared.forms.StmtForm.{StmtForm}
-use Rattle.c_tokens.specs.declared.token.Key.{Key}
-use Rattle.c_reader.specs.States.{is_type, word_class}
+use Rattle.c_spelled.proofs.Pieces.{AllRead}
+use Rattle.c_spelled.proofs.Shapes.{is_punct}
+use Rattle.c_spelled.proofs.Nodes.{Room, off_within, same_got, the_parts, complete_node}
 use Rattle.c_reader.proofs.Loops.{same_place, split}
 use Rattle.c_reader.specs.declared.refusal.Refusal.TheVariants.{Syntax}
 use Rattle.c_spelled.proofs.Alone.{decl_form}
@@ -58,10 +40,8 @@ use Rattle.c_forms.specs.declared.pieces.Repetition.TheVariants.{All}
 use Rattle.c_forms.specs.Rules.{is_none}
 use Rattle.c_spelled.proofs.Begins.{node_begins}
 use Rattle.c_forms.specs.Sets.{type_word, element_starts, goes_on_with}
-use Rattle.c_syntax.specs.Reading.{Gathered, before_by, element_after, others, none_at, with_last, list_from, the_list}
-use Rattle.c_spelled.proofs.Nodes.{fits_of, node_read, a_word}
-use Rattle.c_spelled.proofs.Climb.{stand, turns, turn_off}
-use Rattle.c_spelled.proofs.Turns.{stay, stop}
+use Rattle.c_syntax.specs.Reading.{Gathered, before_by, element_after, others, none_at, with_last, list_from}
+use Rattle.c_spelled.proofs.Nodes.{node_read}
 
 abbrev only_type : Classes → Bool
 only_type [] = true
@@ -118,7 +98,7 @@ module _ (body : Body) (d top : ℕ) (w : List Shape) (levels : Type 0) (room : 
   Specs = Reader Gathered
 
   spec_begins : (t : Plain) (i j : Spot) → inner s.Spec 0 t i j → (has (starts s.Spec) (class_at w i) ≡ true) × (i.place < j.place)
-  spec_begins t i j p = elim (IB s.Spec 0 t i j refl p) [ | inl b ↦ b | inr x ↦ absurd (cc x.0) ]
+  spec_begins t i j p = elim (IB s.Spec 0 t i j refl p) [ inl b ↦ b | inr x ↦ absurd (cc x.0) ]
 
   spec_read : (t : Plain) (i j : Spot) → inner s.Spec 0 t i j → Off (goes_on s.Spec 0) w j.place → Got (read body d (part s.Spec 0) (from w i)) top t w j
   spec_read t i j p o = IE s.Spec 0 t i j refl (omega (arith, low)) p o
@@ -136,8 +116,8 @@ module _ (body : Body) (d top : ℕ) (w : List Shape) (levels : Type 0) (room : 
         | inr b ↦ absurd (cc b.may)
       ] in
       let A : GotAll (read body d (element_after (part s.Spec 0) (none_at i.place) >>= λ g. others All s.Spec (part s.Spec 0) g) (from w i)) top us false k.place w k =
-          all_read body d top w s.Spec 0 (inner s.Spec 0) (part s.Spec 0) spec_begins spec_read All (λ c h. starts_all body d top w s.Spec 0 (inner s.Spec 0) (part s.Spec 0) spec_begins spec_read All c h) refl us i.place i k M.is_first.1.1.0
-          (off_within (goes_on s.Spec 0) set w k.place refl out) (nothing_on body d top w s.Spec 0 (inner s.Spec 0) (part s.Spec 0) spec_begins spec_read (class_at w k) M.is_first.1.1.1) in
+      all_read body d top w s.Spec 0 (inner s.Spec 0) (part s.Spec 0) spec_begins spec_read All (λ c h. starts_all body d top w s.Spec 0 (inner s.Spec 0) (part s.Spec 0) spec_begins spec_read All c h) refl us i.place i k M.is_first.1.1.0
+      (off_within (goes_on s.Spec 0) set w k.place refl out) (nothing_on body d top w s.Spec 0 (inner s.Spec 0) (part s.Spec 0) spec_begins spec_read (class_at w k) M.is_first.1.1.1) in
       let first = split (read body d (element_after (part s.Spec 0) (none_at i.place)) (from w i)) _ (listed us A.height k.place false) (from w k) A.reads in
       let spec = split (read body d (part s.Spec 0) (from w i)) _ first.value first.place first.first in
       let K = ET i spec.value spec.place c spec.first in
@@ -147,25 +127,25 @@ module _ (body : Body) (d top : ℕ) (w : List Shape) (levels : Type 0) (room : 
       let begun_at : read body d (element_after (part s.Spec 0) (none_at i.place)) (from w i) ≡ Ok (g, from w q) = ap (λ o. and_then o (λ x j. Ok (with_last (none_at i.place) x j.at.place, j))) (spec.first ∙ ap (λ x. Ok (x, spec.place)) K.0 ∙ ap (λ j. Ok (leaf, j)) K.1) in
       let left : read body d (others All s.Spec (part s.Spec 0) g) (from w q) ≡ Ok (listed us A.height k.place false, from w k) = sym (ap (λ o. and_then o (λ g j. read body d (others All s.Spec (part s.Spec 0) g) j)) begun_at) ∙ A.reads in
       let no_colon : is_sign punct.Colon (seen_at w (step i)) ≡ false = by_false (is_sign punct.Colon (seen_at w (step i))) (λ y.
-          let colon : Is w (class.Punct punct.Colon) (step i) = same_class (class_at w (step i)) (class_number (class.Punct punct.Colon)) y in
-          let raw : raw_at w q.place ≡ shape.Punct punct.Colon = is_punct i.state (raw_at w (i.place + 1)) punct.Colon colon in
-          let at_q : class_at w q ≡ class_number (class.Punct punct.Colon) = ap (class_in q.state) raw in
-          let over = over_read body d top w s.Spec 0 (inner s.Spec 0) (part s.Spec 0) spec_begins spec_read All g q (ap (has (goes_on_with All (element_starts All s.Spec))) at_q) in
-          let here : from w q ≡ from w k = same_place g (listed us A.height k.place false) (from w q) (from w k) (sym over ∙ left) in
-          let f : true ≡ false = sym (ap (has set) at_q) ∙ ap (λ (x : Input). has set (class_in q.state (raw_at w x.at.place))) here ∙ out q.state in cc f) in
+      let colon : Is w (class.Punct punct.Colon) (step i) = same_class (class_at w (step i)) (class_number (class.Punct punct.Colon)) y in
+      let raw : raw_at w q.place ≡ shape.Punct punct.Colon = is_punct i.state (raw_at w (i.place + 1)) punct.Colon colon in
+      let at_q : class_at w q ≡ class_number (class.Punct punct.Colon) = ap (class_in q.state) raw in
+      let over = over_read body d top w s.Spec 0 (inner s.Spec 0) (part s.Spec 0) spec_begins spec_read All g q (ap (has (goes_on_with All (element_starts All s.Spec))) at_q) in
+      let here : from w q ≡ from w k = same_place g (listed us A.height k.place false) (from w q) (from w k) (sym over ∙ left) in
+      let f : true ≡ false = sym (ap (has set) at_q) ∙ ap (λ (x : Input). has set (class_in q.state (raw_at w x.at.place))) here ∙ out q.state in cc f) in
       let P = the_parts body d top w levels room n deeper inner part DB IB DE IE s.Decl form.Decl rest M.others k j refl (omega (arith, low)) refl (λ _. refl) M.are_others in
       let list : Found = list_from i.place (listed us A.height k.place false) in
       let C : Got (read body d (completed part s.Decl form.Decl i.place (one list) rest) (from w k)) top (forests.node form.Decl (spanned i.place j.place) (list.tree ∷ M.others)) w j =
-          complete_node body d top w levels room n deeper inner part DB IB DE IE s.Decl form.Decl i.place (one list) rest M.others k j tt A.low P in
+      complete_node body d top w levels room n deeper inner part DB IB DE IE s.Decl form.Decl i.place (one list) rest M.others k j tt A.low P in
       let same : t ≡ forests.node form.Decl (spanned i.place j.place) (list.tree ∷ M.others) = value ∙ ap (λ ps. forests.node form.Decl (spanned i.place j.place) ps) (M.value ∙ ap (λ t. t ∷ M.others) M.is_first.1.0) in
       same_got top w t (forests.node form.Decl (spanned i.place j.place) (list.tree ∷ M.others)) j _ _
-        (at_type i false c no_colon ∙ ap (λ o. and_then o (λ g j. read body d (after_part part s.Decl form.Decl i.place (list_from i.place g)) j)) left) same C
+      (at_type i false c no_colon ∙ ap (λ o. and_then o (λ g j. read body d (after_part part s.Decl form.Decl i.place (list_from i.place g)) j)) left) same C
 
   decl_item : (t : Plain) (i j : Spot) → i.state.is_late ≡ false → IsNode levels deeper inner w s.Decl 0 t i j → Goal t i j
   decl_item t i j l N = same_got top w t t j _ _ (at_item i true (and_from (not i.state.is_late) _ (ap not l) begun_decl)) refl (by_type (nat_eq (class_at w i) type_word) refl)
     where
       begun_decl : has (starts s.Decl) (class_at w i) ≡ true
-      begun_decl = elim (node_begins levels deeper inner w DB IB s.Decl 0 t i j refl N) [ | inl b ↦ b.0 | inr x ↦ absurd (cc x.0) ]
+      begun_decl = elim (node_begins levels deeper inner w DB IB s.Decl 0 t i j refl N) [ inl b ↦ b.0 | inr x ↦ absurd (cc x.0) ]
 
       by_type : (b : Bool) → nat_eq (class_at w i) type_word ≡ b → Got (read body d (declaration_at part i.place (seen_at w i)) (from w i)) top t w j
       by_type false e = same_got top w t t j _ _ (ap (λ b. read body d (choose b (type_first part i.place (seen_at w i)) (whole part s.Decl form.Decl)) (from w i)) e) refl (decl_whole t i j N)
@@ -189,12 +169,16 @@ module _ (body : Body) (d top : ℕ) (w : List Shape) (levels : Type 0) (room : 
       G = stmt_read body d top w levels room n deeper inner part DB IB DE IE (omega (arith, low)) DI EW t i m N
 
       begun_stmt : has (starts s.Stmt) (class_at w i) ≡ true
-      begun_stmt = elim (node_begins levels deeper inner w DB IB s.Stmt 0 t i m refl N) [ | inl b ↦ b.0 | inr x ↦ absurd (cc x.0) ]
+      begun_stmt = elim (node_begins levels deeper inner w DB IB s.Stmt 0 t i m refl N) [ inl b ↦ b.0 | inr x ↦ absurd (cc x.0) ]
 
       by_label : class_at w i ≡ type_word → (b : Bool) → is_sign punct.Colon (seen_at w (step i)) ≡ b → Got (read body d (declaration_at part i.place (seen_at w i)) (from w i)) top t w j
       by_label c true y = same_got top w t t j _ _ (at_type i true c y) refl (after_stmt t i m j e (label i.place (id_leaf i.place (raw_at w i.place))) (step i)
-          (record { height = G.height; low = G.low; reads = sym (at_statement body d top w levels room n deeper inner part DB IB DE IE (omega (arith, low)) DI EW i true (ap (λ n. nat_eq n 113 || nat_eq n type_word) c)
-          ∙ at_worded body d top w levels room n deeper inner part DB IB DE IE (omega (arith, low)) DI EW i true y) ∙ G.reads }))
+          (record {
+            height = G.height;
+            low = G.low;
+            reads = sym (at_statement body d top w levels room n deeper inner part DB IB DE IE (omega (arith, low)) DI EW i true (ap (λ n. nat_eq n 113 || nat_eq n type_word) c)
+                ∙ at_worded body d top w levels room n deeper inner part DB IB DE IE (omega (arith, low)) DI EW i true y) ∙ G.reads;
+          }))
       by_label c false y = absurd (let bad : Err (Syntax (step i).place) ≡ Ok (record { tree = t; height = G.height }, from w m) = sym (at_statement body d top w levels room n deeper inner part DB IB DE IE (omega (arith, low)) DI EW i true (ap (λ n. nat_eq n 113 || nat_eq n type_word) c)
           ∙ at_worded body d top w levels room n deeper inner part DB IB DE IE (omega (arith, low)) DI EW i false y
           ∙ ap (λ b. read body d (choose b (word_led part i.place (seen_at w i)) Refuse) (from w (step i))) (ap (λ n. nat_eq n 113) c)) ∙ G.reads in cc bad)

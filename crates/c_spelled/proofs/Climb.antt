@@ -1,7 +1,6 @@
 -- What goes on after a first part is read turn by turn.
-use Rattle.std.proofs.Common.{◌≡◌, ◌⊎◌, inl, inr, refl, subst, ap, sym, ◌∙◌, ℕ, zero, suc, ◌+◌, ◌<◌, ◌≤◌, max, not, nat_lt, Bool, true, false, ◌||◌, ◌&&◌, List, length, [], ◌∷◌, ◌++◌, nat_eq, Option, Some, None, Ok, Err, arith}
+use Rattle.std.proofs.Common.{◌≡◌, ◌⊎◌, inl, inr, refl, ap, ◌∙◌, ℕ, ◌+◌, ◌<◌, ◌≤◌, max, not, nat_lt, Bool, true, false, ◌&&◌, List, length, [], ◌∷◌, Option, Some, None, Ok, arith}
 use Rattle.std.proofs.lemmas.Bool.{lt-ltb, and_from}
-use borrow.Author.Tests.{ltb-true}
 use Rattle.c_tokens.specs.declared.token.Punct.{Punct}
 use Rattle.c_tokens.specs.declared.token.Punct.TheVariants as punct
 use Rattle.c_tokens.specs.declared.token.Shape.{Shape}
@@ -15,24 +14,23 @@ use Rattle.c_forms.specs.Forests.{Plain}
 use Rattle.c_forms.specs.Forests as forests
 use Rattle.c_forms.specs.Measures.{level, pieces}
 use Rattle.c_forms.specs.Tokens.{continued}
-use Rattle.c_forms.specs.Sets.{Classes, has, within, goes_on}
-use Rattle.c_reader.specs.States.{State, class as class_in}
-use Rattle.c_reader.specs.Tokens.{Spot, spot, step, turned, raw_at, seen_at, class_at}
-use Rattle.c_reader.specs.Readers.{Input, Reader, Found, Outcome, Turn, More, Last, Body, Rule, Of, Give, Bind, read, below, and_then, pick, only, token, choose, when, Refuse, ◌>>=◌, ◌>>◌}
+use Rattle.c_forms.specs.Sets.{has, goes_on}
+use Rattle.c_reader.specs.States.{class as class_in}
+use Rattle.c_reader.specs.Tokens.{Spot, step, raw_at, seen_at, class_at}
+use Rattle.c_reader.specs.Readers.{Input, Reader, Found, Outcome, Turn, More, Last, Body, Of, Give, Bind, read, below, and_then, pick, only, token, choose, when, Refuse, ◌>>◌}
 use Rattle.c_reader.proofs.Local.{from}
-use Rattle.c_reader.proofs.Loops.{split, Split}
-use Rattle.c_reader.proofs.Sets.{both, not_true, itself, single, within_lacks}
+use Rattle.c_reader.proofs.Sets.{both, single}
 use Rattle.c_syntax.specs.Allowed.{places}
-use Rattle.c_syntax.specs.Reading.{Listed, Parts, one, node, deeper, called, parts_by, is_starred, height_over, spanned, is_class, Usual, joined, pieces_in, completed}
+use Rattle.c_syntax.specs.Reading.{Parts, one, node, deeper, called, parts_by, is_starred, height_over, spanned, is_class, Usual, joined, pieces_in, completed}
 use Rattle.c_syntax.specs.Grammar.{Standing, standing, parenthesized, left_level, continued_by, may_follow, is_tail, tail_by, turn, climb, tight, after_first, after_part}
 use Rattle.c_syntax.specs.Spells.{Spelling, Is, Matches}
-use Rattle.c_spelled.specs.Fitting.{is_read, reads, follows, fitting, need, needs, is_leveled, unapt, operands_fit, source_end}
+use Rattle.c_spelled.specs.Fitting.{is_read, reads, follows, fitting, needs, is_leveled, unapt, operands_fit, source_end}
 use Rattle.c_spelled.proofs.Off.{Off, in_list}
 use Rattle.c_spelled.proofs.Begins.{AllBegin}
 use Rattle.c_spelled.proofs.Turns.{Comes, stay, go, stop}
 use Rattle.c_spelled.proofs.Groups.{Got}
 use Rattle.c_spelled.proofs.Pieces.{AllRead, GotParts, pieces_read, is_it}
-use Rattle.c_spelled.proofs.Nodes.{Room, off_within}
+use Rattle.c_spelled.proofs.Nodes.{off_within}
 use Rattle.c_spelled.proofs.Levels.{too_loose, not_less}
 
 -- ---- calls
@@ -162,13 +160,13 @@ module _ (body : Body) (d : ℕ) (w : List Shape) where
         let height : ℕ = height_over (is_starred f) (max (R.height + 1) G.height) in
         let x : Standing = stand (forests.node f (spanned origin j.place) (left ∷ others)) height (level f) in
         let on : is_tail due least k.state y (Some f) ≡ true = and_from (not (nat_lt (level f) least)) _ (ap not (not_less (level f) least tight_f))
-            (and_from (not (nat_lt R.level (left_level (pieces f)))) _ (ap not (ap (λ n. nat_lt R.level n) left_is ∙ not_less R.level m (tight_in m R.level few R.tight))) follow) in
+        (and_from (not (nat_lt R.level (left_level (pieces f)))) _ (ap not (ap (λ n. nat_lt R.level n) left_is ∙ not_less R.level m (tight_in m R.level few R.tight))) follow) in
         let parts : read body d (completed called due f origin (one (deeper y.found)) rest) (from w k) ≡ Ok (x.found, from w j) = ap (λ o. and_then o (λ g j. Ok (node f origin j.at.place (joined (one (deeper y.found)) g), j))) G.reads in
         let made : read body d (tail_by due origin y (Some f)) (from w k) ≡ Ok (x, from w j) =
-            ap (λ b. when b (read body d (standing (level f) (after_part called due f origin (deeper y.found))) (from w k)) k.place) (lt-ltb R.height d (omega (arith, R.low, under)))
-            ∙ ap (λ b. read body d (standing (level f) (completed (parts_when b) due f origin (one (deeper y.found)) (after_first (pieces f)))) (from w k)) star
-            ∙ ap (λ ps. read body d (standing (level f) (completed called due f origin (one (deeper y.found)) ps)) (from w k)) rest_is
-            ∙ ap (λ o. and_then o (λ x j. Ok (record { found = x; level = level f }, j))) parts in
+        ap (λ b. when b (read body d (standing (level f) (after_part called due f origin (deeper y.found))) (from w k)) k.place) (lt-ltb R.height d (omega (arith, R.low, under)))
+        ∙ ap (λ b. read body d (standing (level f) (completed (parts_when b) due f origin (one (deeper y.found)) (after_first (pieces f)))) (from w k)) star
+        ∙ ap (λ ps. read body d (standing (level f) (completed called due f origin (one (deeper y.found)) ps)) (from w k)) rest_is
+        ∙ ap (λ o. and_then o (λ x j. Ok (record { found = x; level = level f }, j))) parts in
         let bracket : has (class_number (class.Punct p) ∷ []) (class_at w k) ≡ true = single (class_number (class.Punct p)) (class_at w k) (ap (λ x. class_in k.state x) raw) in
         record {
           level = level f;

@@ -1,59 +1,45 @@
 -- What spells an external declaration is read, and is no other (ISO/IEC 9899:1990, 6.7).
-use Rattle.std.proofs.Common.{◌≡◌, ◌⊎◌, inl, inr, refl, subst, ap, sym, ◌∙◌, ℕ, zero, suc, ◌+◌, ◌<◌, ◌≤◌, max, not, Bool, true, false, ◌||◌, ◌&&◌, List, length, [], ◌∷◌, ◌++◌, nat_eq, Option, Some, None, Ok, Err, arith}
+use Rattle.std.proofs.Common.{◌≡◌, inl, inr, refl, subst, ap, sym, ◌∙◌, ℕ, ◌≤◌, Bool, true, false, ◌&&◌, List, [], ◌∷◌, Some, None, Ok, arith}
 use Rattle.c_tokens.specs.declared.token.Shape.{Shape}
 use Rattle.c_tokens.specs.declared.token.Shape.TheVariants as shape
-use Rattle.c_tokens.specs.declared.token.Word.{Word}
-use Rattle.c_tokens.specs.declared.token.Punct.{Punct}
 use Rattle.c_tokens.specs.declared.token.Punct.TheVariants as punct
-use Rattle.c_tokens.specs.declared.class.Class.TheVariants as class
 use Rattle.c_tokens.specs.ClassNumbers.{class_number}
 use Rattle.c_forms.specs.declared.pieces.Event.TheVariants as event
-use Rattle.c_forms.specs.declared.pieces.Sort.{Sort}
 use Rattle.c_forms.specs.declared.pieces.Sort.TheVariants as s
 use Rattle.c_forms.specs.declared.forms.Form.{Form}
 use Rattle.c_forms.specs.declared.forms.Form.TheVariants as form
-use Rattle.c_forms.specs.declared.forms.ExpForm.TheVariants as exp
-use Rattle.c_forms.specs.declared.forms.SpecForm.TheVariants as spec
-use Rattle.c_forms.specs.declared.forms.GroupForm.TheVariants as group
 use Rattle.c_forms.specs.Forests.{Plain}
 use Rattle.c_forms.specs.Forests as forests
-use Rattle.c_forms.specs.Measures.{level, pieces}
-use Rattle.c_forms.specs.Sets.{Classes, has, starts, goes_on, may_be_empty, type_word}
-use Rattle.c_reader.specs.States.{State, is_function, seen, class as class_in, happens}
-use Rattle.c_reader.specs.Tokens.{Spot, spot, step, turned, raw_at, seen_at, class_at}
-use Rattle.c_reader.specs.Readers.{Input, Reader, Found, Outcome, Body, Give, Look, Ask, Change, read, and_then, choose, ◌>>=◌}
+use Rattle.c_forms.specs.Measures.{pieces}
+use Rattle.c_forms.specs.Sets.{has, starts, goes_on}
+use Rattle.c_reader.specs.States.{State, class as class_in, happens}
+use Rattle.c_reader.specs.Tokens.{Spot, spot, turned, raw_at, class_at}
+use Rattle.c_reader.specs.Readers.{Found, read}
 use Rattle.c_reader.proofs.Local.{from}
-use Rattle.c_reader.proofs.Sets.{contrary, single, only_single, apart_has, has_neither}
-use Rattle.c_syntax.specs.Allowed.{may_happen, places}
-use Rattle.c_syntax.specs.Reading.{Usual, Before, before_by, Gathered, Listed, one, with_last, none_at, list_from, the_list, node, gathered, gathered_by, grouped, others, completed, Parts, called, is_absent, is_starred, inside, spanned}
-use Rattle.c_syntax.specs.Grammar.{sign, is_sign, whole, begins, after_first, after_part, goes_on_declaring, function_from, declaration_of, declaration_from, outer_by, outer, specified, unspecified, external, in_place, body, item_reader}
-use Rattle.c_syntax.specs.Spells.{Separated, Chain, Elements, AnyNumber, NoneBegins, Parted, IsList, IsGroup, started_by, has_no_specifiers, Levels, Spelling, nothing_spelled, Is, Matches, parts_spelled, IsNode, Wraps, may_be, AnyWord, ValueWord, IsLiteral, after_name, At, InPlace, Spells}
-use Rattle.c_spelled.specs.Fitting.{is_read, need}
-use Rattle.c_spelled.proofs.Off.{Off, On, on_here, off, off_left, off_right}
+use Rattle.c_reader.proofs.Sets.{contrary}
+use Rattle.c_syntax.specs.Allowed.{places}
+use Rattle.c_syntax.specs.Reading.{Usual, before_by, none_at, list_from, the_list, Parts, is_absent, is_starred, spanned}
+use Rattle.c_syntax.specs.Grammar.{sign, after_first, declaration_of, outer, specified, external, in_place, body, item_reader}
+use Rattle.c_syntax.specs.Spells.{Parted, IsList, IsGroup, started_by, has_no_specifiers, Spelling, Is, Matches, parts_spelled, IsNode, InPlace, Spells}
+use Rattle.c_spelled.proofs.Off.{Off, on_here, off}
 use Rattle.c_spelled.proofs.Begins.{AllBegin, in_place_begins}
-use Rattle.c_spelled.proofs.Balance.{AllSame, in_place_same, group_same}
-use Rattle.c_spelled.proofs.Groups.{Got, GotAll, listed, group_read, others_read, Others}
-use Rattle.c_spelled.proofs.Pieces.{AllRead, is_it, is_not}
-use Rattle.c_spelled.proofs.Params.{params_read}
-use Rattle.c_spelled.proofs.Nodes.{Room, off_within, same_got, the_parts, complete_node}
-use Rattle.c_spelled.proofs.Sorts.{Deep, in_place_read}
-use Rattle.std.proofs.lemmas.Bool.{or_from, or_left, or_right, and_from}
-use Rattle.c_tokens.specs.declared.class.Class.{Class}
-use Rattle.c_forms.specs.declared.pieces.Repetition.TheVariants.{All, Any, Many, Spliced}
+use Rattle.c_spelled.proofs.Balance.{in_place_same, group_same}
+use Rattle.c_spelled.proofs.Groups.{Got, listed}
+use Rattle.c_spelled.proofs.Pieces.{is_it, is_not}
+use Rattle.c_spelled.proofs.Nodes.{Room, off_within, same_got}
+use Rattle.c_spelled.proofs.Sorts.{Deep}
+use Rattle.c_forms.specs.declared.pieces.Repetition.TheVariants.{All, Any}
 use Rattle.c_forms.specs.declared.pieces.Piece.{Piece}
 use Rattle.c_forms.specs.declared.forms.ItemForm.TheVariants as item
 use Rattle.c_forms.specs.Forests.{forest}
 use Rattle.c_forms.specs.Rules.{is_none, in_first}
-use Rattle.c_forms.specs.Sets.{element_starts, goes_on_with}
-use Rattle.c_spelled.specs.Fitting.{opens, reads, follows, fitting, between_set}
-use Rattle.c_spelled.proofs.Opens.{Begun, Starts, starts_so, chain_begins}
-use Rattle.c_spelled.proofs.Shapes.{is_punct}
+use Rattle.c_spelled.specs.Fitting.{opens}
+use Rattle.c_spelled.proofs.Opens.{starts_so, chain_begins}
 use Rattle.c_spelled.proofs.Params.{chain_some}
-use Rattle.c_spelled.proofs.Alone.{item_is, decl_form, init_declarator_form}
+use Rattle.c_spelled.proofs.Alone.{item_is, decl_form}
 use Rattle.c_spelled.proofs.Items as items
 use Rattle.c_spelled.proofs.Items.{the_function, declares, after_head, after_list, comma}
-use Rattle.c_spelled.proofs.Depths.{levels_of, deeper_of, room_of, deep, placed, spelled_read}
-use Rattle.c_reader.proofs.Loops.{same_answer, same_place}
+use Rattle.c_spelled.proofs.Depths.{levels_of, deeper_of, room_of, deep, placed}
 
 abbrev is_function_form : Form → Bool
 is_function_form (form.Item item.Function) = true
@@ -101,7 +87,7 @@ module _ (d top : ℕ) (w : List Shape) (levels : Type 0) (room : Room levels d 
             let first : M.first ≡ specs.tree = M.is_first.1.0 ∙ ap (λ (k : Spot). forests.node the_list (spanned i.place k.place) M.is_first.0) (sym at) ∙ ap (λ us. forests.node the_list (spanned i.place i.place) us) A.1.0 in
             let same : t ≡ forests.node the_function (spanned i.place j.place) (specs.tree ∷ M.others) = v ∙ ap (λ ps. forests.node the_function (spanned i.place j.place) ps) (M.value ∙ ap (λ t. t ∷ M.others) first) in
             same_got top w t (forests.node the_function (spanned i.place j.place) (specs.tree ∷ M.others)) j _ _
-              (items.at_external d top w levels room under deeper D i false off_spec ∙ ap (λ k. read body d (outer part i.place specs) (from w k)) at) same R
+            (items.at_external d top w levels room under deeper D i false off_spec ∙ ap (λ k. read body d (outer part i.place specs) (from w k)) at) same R
         | inr C ↦ absurd (contrary (is_none (forest M.is_first.0)) none (chain_some (spelled 8 s.Spec 0) w None C.0 M.is_first.0 i' k C.1))
       ]
 
@@ -121,8 +107,8 @@ module _ (d top : ℕ) (w : List Shape) (levels : Type 0) (room : Room levels d 
             let R = items.function_read d top w levels room under deeper D i.place specs M.others k j S.1.0 M.are_others in
             let same : t ≡ forests.node the_function (spanned i.place j.place) (specs.tree ∷ M.others) = v ∙ ap (λ ps. forests.node the_function (spanned i.place j.place) ps) (M.value ∙ ap (λ t. t ∷ M.others) M.is_first.1.0) in
             same_got top w t (forests.node the_function (spanned i.place j.place) (specs.tree ∷ M.others)) j _ _
-              (items.at_external d top w levels room under deeper D i true begun.0
-              ∙ items.after_specs d top w levels room under deeper D i k specs false S.1.1 (is_not w (sign punct.Semicolon) k (off_within (class_number (sign punct.Semicolon) ∷ []) set w k.place refl out))) same R
+            (items.at_external d top w levels room under deeper D i true begun.0
+            ∙ items.after_specs d top w levels room under deeper D i k specs false S.1.1 (is_not w (sign punct.Semicolon) k (off_within (class_number (sign punct.Semicolon) ∷ []) set w k.place refl out))) same R
       ]
 
   function_item : (b : Bool) (t : Plain) (i j : Spot) → has_no_specifiers t ≡ b → t.form ≡ the_function → At_item b t i j → Goal t i j
@@ -155,7 +141,7 @@ module _ (d top : ℕ) (w : List Shape) (levels : Type 0) (room : Room levels d 
       let flag_k : k.state.kept.is_function_due ≡ false = (group_same w (spelled 7) (in_place_same 7 levels deeper w D.same) All s.Spec 0 Usual us i k refl G).1 refl ∙ flag in
       let head : read body d (external part) (from w i) ≡ read body d (specified part i.place) (from w i) = items.at_external d top w levels room under deeper D i true begun.0 in
       let front : t ≡ forests.node form.Decl (spanned i.place j.place) (specs.tree ∷ (forests.node the_list (spanned k.place m.place) vs ∷ Y.others)) =
-          N.value ∙ ap (λ f. forests.node f (spanned i.place j.place) N.parts) e ∙ ap (λ ps. forests.node form.Decl (spanned i.place j.place) ps) (X.value ∙ ap (λ t. t ∷ X.others) X.is_first.1.0 ∙ ap (λ ts. specs.tree ∷ ts) (Y.value ∙ ap (λ t. t ∷ Y.others) Y.is_first.1.0)) in
+      N.value ∙ ap (λ f. forests.node f (spanned i.place j.place) N.parts) e ∙ ap (λ ps. forests.node form.Decl (spanned i.place j.place) ps) (X.value ∙ ap (λ t. t ∷ X.others) X.is_first.1.0 ∙ ap (λ ts. specs.tree ∷ ts) (Y.value ∙ ap (λ t. t ∷ Y.others) Y.is_first.1.0)) in
       elim (Y.is_first.1.1) [
         | inl A ↦ let at : k ≡ m = A.1.1 in
             let semicolon : Is w (sign punct.Semicolon) k = ap (class_at w) at ∙ Y.are_others.0 in
@@ -163,13 +149,13 @@ module _ (d top : ℕ) (w : List Shape) (levels : Type 0) (room : Room levels d 
             let R = items.decl_end d top w levels room under deeper D i.place specs list Y.others m j S.1.0 (omega arith) Y.are_others in
             let last : forests.node the_list (spanned k.place m.place) vs ≡ list.tree = ap (λ (m : Spot). forests.node the_list (spanned k.place m.place) vs) (sym at) ∙ ap (λ us. forests.node the_list (spanned k.place k.place) us) A.1.0 in
             same_got top w (forests.node declares (spanned i.place j.place) (t ∷ [])) (forests.node declares (spanned i.place j.place) (forests.node form.Decl (spanned i.place j.place) (specs.tree ∷ (list.tree ∷ Y.others)) ∷ [])) j _ _
-              (head ∙ items.after_specs d top w levels room under deeper D i k specs true S.1.1 (is_it w (sign punct.Semicolon) k semicolon) ∙ ap (λ k'. read body d (declaration_of part i.place specs list) (from w k')) at)
-              (ap (λ t. forests.node declares (spanned i.place j.place) (t ∷ [])) (front ∙ ap (λ l. forests.node form.Decl (spanned i.place j.place) (specs.tree ∷ (l ∷ Y.others))) last)) R
+            (head ∙ items.after_specs d top w levels room under deeper D i k specs true S.1.1 (is_it w (sign punct.Semicolon) k semicolon) ∙ ap (λ k'. read body d (declaration_of part i.place specs list) (from w k')) at)
+            (ap (λ t. forests.node declares (spanned i.place j.place) (t ∷ [])) (front ∙ ap (λ l. forests.node form.Decl (spanned i.place j.place) (specs.tree ∷ (l ∷ Y.others))) last)) R
         | inr C ↦ let first = chain_begins w s.InitDeclarator (spelled 7 s.InitDeclarator 0) (items.sort_begins d top w levels room under deeper D 7 s.InitDeclarator 0 refl refl) (Some comma) C.0 vs k m C.1 in
             let R = items.declarators_read d top w levels room under deeper D i.place specs vs Y.others k m j S.1.0 flag_k C Y.are_others in
             same_got top w (forests.node declares (spanned i.place j.place) (t ∷ [])) (forests.node declares (spanned i.place j.place) (forests.node form.Decl (spanned i.place j.place) (specs.tree ∷ (forests.node the_list (spanned k.place m.place) vs ∷ Y.others)) ∷ [])) j _ _
-              (head ∙ items.after_specs d top w levels room under deeper D i k specs false S.1.1 (is_not w (sign punct.Semicolon) k (off (starts s.InitDeclarator) (class_number (sign punct.Semicolon) ∷ []) w k.place refl (on_here (starts s.InitDeclarator) w k first.0))))
-              (ap (λ t. forests.node declares (spanned i.place j.place) (t ∷ [])) front) R
+            (head ∙ items.after_specs d top w levels room under deeper D i k specs false S.1.1 (is_not w (sign punct.Semicolon) k (off (starts s.InitDeclarator) (class_number (sign punct.Semicolon) ∷ []) w k.place refl (on_here (starts s.InitDeclarator) w k first.0))))
+            (ap (λ t. forests.node declares (spanned i.place j.place) (t ∷ [])) front) R
       ]
 
   declaration_item : (b : Bool) (t : Plain) (i j : Spot) → has_no_specifiers t ≡ b → i.state.kept.is_function_due ≡ false → t.form ≡ declares → At_item b t i j → Goal t i j

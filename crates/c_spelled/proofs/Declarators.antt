@@ -1,60 +1,48 @@
 -- What spells a declarator is read (ISO/IEC 9899:1990, 6.5.4).
-use Rattle.std.proofs.Common.{◌≡◌, ◌⊎◌, inl, inr, refl, subst, ap, sym, ◌∙◌, ℕ, zero, suc, ◌+◌, ◌-◌, ◌<◌, ◌≤◌, max, not, nat_lt, Bool, true, false, ◌||◌, ◌&&◌, List, length, [], ◌∷◌, ◌++◌, nat_eq, Option, Some, None, Ok, Err, arith}
-use Rattle.std.proofs.lemmas.Bool.{lt-ltb, or_from, eq-eqb, and_from, or_left, or_right}
-use borrow.Author.Tests.{ltb-true, ltb-false}
-use Rattle.c_tokens.specs.declared.token.Key.TheVariants as key
+use Rattle.std.proofs.Common.{◌≡◌, ◌⊎◌, inl, inr, refl, subst, ap, sym, ◌∙◌, ℕ, ◌+◌, ◌<◌, ◌≤◌, nat_lt, Bool, true, false, ◌&&◌, List, [], ◌∷◌, Some, Ok, arith}
+use Rattle.std.proofs.lemmas.Bool.{lt-ltb}
+use borrow.Author.Tests.{ltb-false}
 use Rattle.c_tokens.specs.declared.token.Punct.{Punct}
 use Rattle.c_tokens.specs.declared.token.Punct.TheVariants as punct
 use Rattle.c_tokens.specs.declared.token.Shape.{Shape}
 use Rattle.c_tokens.specs.declared.token.Shape.TheVariants as shape
-use Rattle.c_tokens.specs.declared.class.Class.{Class}
 use Rattle.c_tokens.specs.declared.class.Class.TheVariants as class
 use Rattle.c_tokens.specs.ClassNumbers.{class_number}
 use Rattle.c_forms.specs.declared.pieces.Event.TheVariants as event
-use Rattle.c_forms.specs.declared.pieces.Sort.{Sort}
 use Rattle.c_forms.specs.declared.pieces.Sort.TheVariants as s
 use Rattle.c_forms.specs.declared.pieces.Piece.{Piece}
 use Rattle.c_forms.specs.declared.forms.Form.{Form}
 use Rattle.c_forms.specs.declared.forms.Form.TheVariants as form
-use Rattle.c_forms.specs.declared.forms.ExpForm.{ExpForm}
-use Rattle.c_forms.specs.declared.forms.ExpForm.TheVariants as exp
-use Rattle.c_forms.specs.declared.forms.SpecForm.TheVariants as spec
-use Rattle.c_forms.specs.declared.forms.StmtForm.TheVariants as stmt
-use Rattle.c_forms.specs.declared.forms.ItemForm.TheVariants as item
-use Rattle.c_forms.specs.declared.forms.TemplateForm.TheVariants as template
-use Rattle.c_forms.specs.declared.forms.GroupForm.TheVariants as group
 use Rattle.c_forms.specs.Forests.{Plain}
 use Rattle.c_forms.specs.Forests as forests
 use Rattle.c_forms.specs.Measures.{level, pieces}
-use Rattle.c_forms.specs.Tokens.{begun, continued}
-use Rattle.c_forms.specs.Sets.{Classes, has, within, given, starts, goes_on, all_puncts}
-use Rattle.c_reader.specs.States.{State, seen, class as class_in, happens}
-use Rattle.c_reader.specs.Tokens.{Spot, spot, step, turned, raw_at, seen_at, class_at}
-use Rattle.c_reader.specs.Readers.{Input, Reader, Found, Outcome, Body, Rule, Of, Opened, Give, Refuse, Look, Next, Pick, Bind, Fits, Call, Ask, Change, read, below, and_then, choose, when, pick, only, ◌>>=◌, ◌>>◌, token}
+use Rattle.c_forms.specs.Tokens.{continued}
+use Rattle.c_forms.specs.Sets.{has, given, goes_on, all_puncts}
+use Rattle.c_reader.specs.States.{class as class_in, happens}
+use Rattle.c_reader.specs.Tokens.{Spot, step, turned, raw_at, seen_at, class_at}
+use Rattle.c_reader.specs.Readers.{Reader, Body, Give, Refuse, Next, Fits, read, choose, when}
 use Rattle.c_reader.proofs.Local.{from}
-use Rattle.c_reader.proofs.Sets.{both, not_true, contrary, itself, single, only_single, same_class, either}
+use Rattle.c_reader.proofs.Sets.{both, contrary, single}
 use Rattle.c_syntax.specs.Allowed.{places}
-use Rattle.c_syntax.specs.Reading.{Listed, Parts, nothing, one, node, deeper as deeper_one, called, parts_of, is_starred, spanned, is_class, is_absent, inside, Usual, joined, height_over, completed}
-use Rattle.c_syntax.specs.Grammar.{begins_parenthesized, absent_at, the_declarator, nameless_function, opened_declarator, declarator_head, declarator_of, is_value, may_be_absent, may_be_named, Standing, standing, sign, is_sign, begins, left_level, after_first, after_paren, may_follow, tight, whole, type_or, entered, sized, sized_opened, begun_by, primary, expression, opened, parenthesized, climb}
-use Rattle.c_syntax.specs.Spells.{Spelling, Is, IsList, IsGroup, Matches, Levels, parts_spelled, IsNode, Wraps, may_be, ValueWord, Parted}
-use Rattle.c_spelled.specs.Fitting.{parted, opens, is_read, reads, follows, fitting, blank, need, needs, bound, is_leveled, is_apt, unapt, loose, prefix, tails, operands_fit}
-use Rattle.c_spelled.proofs.Off.{Off, on_here, off, off_both, off_left, off_right}
-use Rattle.c_spelled.proofs.Opens.{Begun, starts_so}
+use Rattle.c_syntax.specs.Reading.{Parts, called, is_starred, spanned, is_class, is_absent, Usual}
+use Rattle.c_syntax.specs.Grammar.{absent_at, the_declarator, opened_declarator, declarator_head, declarator_of, is_value, may_be_absent, may_be_named, Standing, standing, left_level, after_first, may_follow, tight, whole, parenthesized}
+use Rattle.c_syntax.specs.Spells.{Spelling, Is, Matches, Levels, parts_spelled, IsNode, Wraps, may_be, ValueWord, Parted}
+use Rattle.c_spelled.specs.Fitting.{parted, reads, follows, fitting, blank, needs, bound, unapt, loose, operands_fit}
+use Rattle.c_spelled.proofs.Off.{Off, on_here, off, off_both}
+use Rattle.c_spelled.proofs.Opens.{starts_so}
 use Rattle.c_spelled.proofs.Begins.{AllBegin}
 use Rattle.c_spelled.proofs.Groups.{Got}
-use Rattle.c_spelled.proofs.Pieces.{AllRead, GotParts, is_it, is_not}
-use Rattle.c_spelled.proofs.Shapes.{is_punct, is_key}
-use Rattle.c_spelled.proofs.Nodes.{Room, Parts_match, off_within, same_got, whole_read, the_parts, complete_node}
-use Rattle.c_spelled.proofs.Levels.{off_unapt, off_operator, not_less, goes_split}
-use Rattle.c_spelled.proofs.Alone.{declarator_is, abstract_is, param_is, member_name_is}
+use Rattle.c_spelled.proofs.Pieces.{AllRead, is_it}
+use Rattle.c_spelled.proofs.Shapes.{is_punct}
+use Rattle.c_spelled.proofs.Nodes.{Room, off_within, whole_read}
+use Rattle.c_spelled.proofs.Levels.{off_unapt, off_operator, not_less}
+use Rattle.c_spelled.proofs.Alone.{declarator_is}
 use Rattle.c_spelled.proofs.Balance.{AllSame, group_same}
 use Rattle.c_spelled.proofs.Exps.{EndOff, apt_so}
-use Rattle.c_syntax.specs.Allowed.{may_happen}
 use Rattle.c_forms.specs.declared.pieces.Repetition.TheVariants.{Optional}
 use Rattle.c_forms.specs.declared.forms.DeclaratorForm.{DeclaratorForm}
 use Rattle.c_forms.specs.declared.forms.DeclaratorForm.TheVariants as declarator
-use Rattle.c_reader.specs.States.{Kept, is_bare, top as top_kept}
-use Rattle.c_spelled.proofs.Climb.{AllCalled, Lower, called_read, in_parens, Tight, tight_in, stand, stands_at, tight_at, Rises, begin, longer, finish, ends_at}
+use Rattle.c_spelled.proofs.Climb.{AllCalled, called_read, in_parens, Tight, tight_in, stand, stands_at, tight_at, begin, longer, finish}
 use Rattle.c_spelled.proofs.Heads.{heads, Clear, RisesSo, There, seal_so, not_class}
 
 module _ (body : Body) (d top : ℕ) (w : List Shape) (levels : Type 0) (room : Room levels d top) (under : top ≤ d) (deeper inner : Spelling) (part : Parts)
@@ -106,15 +94,15 @@ module _ (body : Body) (d top : ℕ) (w : List Shape) (levels : Type 0) (room : 
   by_operator f p l m parts i j le high two left o M raw found left_is star follow clear F N bl =
       let k : Spot = M.place in
       let R : RisesSo body d w part s.Declarator l top i M.first 2 k = DR 2 l M.first i k M.is_first (omega (arith, le, high, two)) (λ l' T. off_both (given (nat_lt l' 2) (goes_on s.Declarator l')) (loose s.Declarator l' all_puncts) w k.place
-          (no_prefix l' k T) (off_operator s.Declarator l' p f w k raw found (apt_so f 2 l' (omega (arith, two)) (omega arith) left_is T))) clear in
+      (no_prefix l' k T) (off_operator s.Declarator l' p f w k raw found (apt_so f 2 l' (omega (arith, two)) (omega arith) left_is T))) clear in
       let ahead : k.place < j.place = elim (starts_so w deeper DB s.Declarator f Usual (after_first (pieces f)) M.others k j (both (reads s.Declarator (after_first (pieces f))) _ F).0 M.are_others) [
         | inl s ↦ s.less
         | inr b ↦ absurd (contrary (blank s.Declarator Usual (after_first (pieces f))) b.may bl)
       ] in
       let X = longer body d w s.Declarator l i.place (λ _ _. Unit {0}) deeper top DB DE (declarator_head part s.Declarator l) i k j M.first M.others f 2 (after_first (pieces f)) p refl (room left) under R (omega arith) (omega (arith, le, high)) raw found left_is refl star follow F
-          (ltb-false places (needs s.Declarator (after_first (pieces f))) N) o M.are_others ahead in
+      (ltb-false places (needs s.Declarator (after_first (pieces f))) N) o M.are_others ahead in
       let made : RisesSo body d w part s.Declarator l (top + 1) i (forests.node f (spanned i.place j.place) parts) (level f) j =
-          subst (λ ts. RisesSo body d w part s.Declarator l (top + 1) i (forests.node f (spanned i.place j.place) ts) (level f) j) (sym M.value) X in
+      subst (λ ts. RisesSo body d w part s.Declarator l (top + 1) i (forests.node f (spanned i.place j.place) ts) (level f) j) (sym M.value) X in
       record { level = made.level; tight = looser m (level f) made.level high made.tight; height = made.height; low = made.low; first = made.first; place = made.place; start = made.start; comes = made.comes; kept = made.kept }
 
   -- a bracket or a parenthesis after nothing
@@ -130,7 +118,7 @@ module _ (body : Body) (d top : ℕ) (w : List Shape) (levels : Type 0) (room : 
       let X = M.are_others.1.1 in
       let S = group_same w deeper DS Optional s.Exp 3 Usual X.is_first.0 (turned (happens event.Aside) (step k)) X.place refl X.is_first.1.1 in
       by_operator (form.Declarator declarator.ArrayOf) punct.LeftBracket l m parts i j le high refl v o M (is_punct k.state (raw_at w k.place) punct.LeftBracket M.are_others.0) refl refl refl
-          (seal_so k.state (k.state.kept ∷ k.state.aside) refl X.place.state S.0 X.are_others.1.0) (sign_clear punct.LeftBracket M.first k M.are_others.0 refl) refl refl refl
+      (seal_so k.state (k.state.kept ∷ k.state.aside) refl X.place.state S.0 X.are_others.1.0) (sign_clear punct.LeftBracket M.first k M.are_others.0 refl) refl refl refl
 
   function : (l m : ℕ) (parts : List Plain) (i j : Spot) → l ≤ m → m ≤ 2 → levels → Off (unapt s.Declarator 2) w j.place → Here (form.Declarator declarator.FunctionOf) (pieces (form.Declarator declarator.FunctionOf)) parts i j → Goal l m (form.Declarator declarator.FunctionOf) parts i j
   function l m parts i j le high v o M = elim (DT 2 M.first i M.place M.is_first) [
@@ -141,21 +129,21 @@ module _ (body : Body) (d top : ℕ) (w : List Shape) (levels : Type 0) (room : 
 
   decl_node : (g : DeclaratorForm) (l m : ℕ) (parts : List Plain) (i j : Spot) → l ≤ m → m ≤ level (form.Declarator g) → Levels (is_starred (form.Declarator g)) levels → Off (unapt s.Declarator (level (form.Declarator g))) w j.place
       → Clear s.Declarator w (forests.node (form.Declarator g) (spanned i.place j.place) parts) j → may_be s.Declarator (form.Declarator g) ≡ true → Here (form.Declarator g) (pieces (form.Declarator g)) parts i j → Goal l m (form.Declarator g) parts i j
-  decl_node declarator.Named l m parts i j le high v o clear may M = 
+  decl_node declarator.Named l m parts i j le high v o clear may M =
       let f : Form = form.Declarator declarator.Named in
       let G = node_of f l parts i j tt o M refl (omega arith) in
       let c : class_at w i ≡ class_number class.Word = (ID 0 M.first i M.place M.is_first).1 in
       begin body d w s.Declarator l i.place (λ _ _. Unit {0}) (declarator_head part s.Declarator l) (top + 1) i (forests.node f (spanned i.place j.place) parts) m G.height 17 j (inl high) (omega (arith, G.low))
-          (at_head l i false (not_class w (class.Punct punct.LeftParen) i (class_number class.Word) c refl) ∙ ap (λ b. read body d (if_other l i b) (from w i)) (not_class w (class.Punct punct.Star) i (class_number class.Word) c refl)
-          ∙ ap (λ b. read body d (choose (b && may_be_named s.Declarator) (standing 17 (whole part s.Declarator f)) (if_nothing i)) (from w i)) (is_it w class.Word i c)
-          ∙ stands_at body d w 17 (whole part s.Declarator f) top (forests.node f (spanned i.place j.place) parts) i j G) tt
+      (at_head l i false (not_class w (class.Punct punct.LeftParen) i (class_number class.Word) c refl) ∙ ap (λ b. read body d (if_other l i b) (from w i)) (not_class w (class.Punct punct.Star) i (class_number class.Word) c refl)
+      ∙ ap (λ b. read body d (choose (b && may_be_named s.Declarator) (standing 17 (whole part s.Declarator f)) (if_nothing i)) (from w i)) (is_it w class.Word i c)
+      ∙ stands_at body d w 17 (whole part s.Declarator f) top (forests.node f (spanned i.place j.place) parts) i j G) tt
   decl_node declarator.Absent l m parts i j le high v o clear may M = absurd (cc may)
   decl_node declarator.Pointer l m parts i j le high v o clear may M =
       let f : Form = form.Declarator declarator.Pointer in
       let G = node_of f l parts i j v o M refl (omega arith) in
       begin body d w s.Declarator l i.place (λ _ _. Unit {0}) (declarator_head part s.Declarator l) (top + 1) i (forests.node f (spanned i.place j.place) parts) m G.height 1 j (inl high) (omega (arith, G.low))
-          (at_head l i false (not_class w (class.Punct punct.LeftParen) i (class_number (class.Punct punct.Star)) M.0 refl) ∙ ap (λ b. read body d (if_other l i b) (from w i)) (is_it w (class.Punct punct.Star) i M.0)
-          ∙ tight_at body d w l f (whole part s.Declarator f) top (forests.node f (spanned i.place j.place) parts) i j G (omega (arith, le, high))) tt
+      (at_head l i false (not_class w (class.Punct punct.LeftParen) i (class_number (class.Punct punct.Star)) M.0 refl) ∙ ap (λ b. read body d (if_other l i b) (from w i)) (is_it w (class.Punct punct.Star) i M.0)
+      ∙ tight_at body d w l f (whole part s.Declarator f) top (forests.node f (spanned i.place j.place) parts) i j G (omega (arith, le, high))) tt
   decl_node declarator.ArrayOf l m parts i j le high v o clear may M = array l m parts i j le high v o M
   decl_node declarator.FunctionOf l m parts i j le high v o clear may M = function l m parts i j le high v o M
 
@@ -165,13 +153,13 @@ module _ (body : Body) (d top : ℕ) (w : List Shape) (levels : Type 0) (room : 
       let G : Got (read body d (parenthesized s.Declarator) (from w (step i))) top t w j = in_parens body d w s.Declarator top t (step i) W.last j L W.closes W.ends in
       let S : read body d (standing 17 (parenthesized s.Declarator)) (from w (step i)) ≡ Ok (stand t G.height 17, from w j) = stands_at body d w 17 (parenthesized s.Declarator) top t (step i) j G in
       begin body d w s.Declarator l i.place (λ _ _. Unit {0}) (declarator_head part s.Declarator l) (top + 1) i t m G.height 17 j (inr refl) (omega (arith, G.low))
-          (at_head l i true (is_it w (class.Punct punct.LeftParen) i W.opens) ∙ fits_here (Next (standing 17 (parenthesized s.Declarator))) i W.left ∙ S) tt
+      (at_head l i true (is_it w (class.Punct punct.LeftParen) i W.opens) ∙ fits_here (Next (standing 17 (parenthesized s.Declarator))) i W.left ∙ S) tt
 
   pub rises : (l m : ℕ) (t : Plain) (i j : Spot) → IsNode levels deeper inner w s.Declarator m t i j ⊎ Wraps levels deeper w s.Declarator t i j → l ≤ m → EndOff s.Declarator w m j → Clear s.Declarator w t j → RisesSo body d w part s.Declarator l (top + 1) i t m j
   rises l m t i j (inl N) le o clear =
       let g = declarator_is t.form N.may in
       let M : (m ≤ level (form.Declarator g.0)) × (Levels (is_starred (form.Declarator g.0)) levels × ((may_be s.Declarator (form.Declarator g.0) ≡ true) × Here (form.Declarator g.0) (pieces (form.Declarator g.0)) N.parts i j)) =
-          subst (λ f. (m ≤ level f) × (Levels (is_starred f) levels × ((may_be s.Declarator f ≡ true) × Here f (pieces f) N.parts i j))) g.1 (N.tight, (N.left, (N.may, N.matches))) in
+      subst (λ f. (m ≤ level f) × (Levels (is_starred f) levels × ((may_be s.Declarator f ≡ true) × Here f (pieces f) N.parts i j))) g.1 (N.tight, (N.left, (N.may, N.matches))) in
       let same : forests.node (form.Declarator g.0) (spanned i.place j.place) N.parts ≡ t = ap (λ f. forests.node f (spanned i.place j.place) N.parts) (sym g.1) ∙ sym N.value in
       subst (λ t. RisesSo body d w part s.Declarator l (top + 1) i t m j) same (decl_node g.0 l m N.parts i j le M.0 M.1.0 (o (level (form.Declarator g.0)) (inl M.0)) (λ e. clear (ap is_absent (sym same) ∙ e)) M.1.1.0 M.1.1.1)
   rises l m t i j (inr W) le o clear = wrapped l m t i j W

@@ -1,50 +1,39 @@
 -- What is spelled is read, however deep it is, of each sort that is a part.
-use Rattle.std.proofs.Common.{◌≡◌, ◌⊎◌, inl, inr, refl, subst, ap, sym, ◌∙◌, ℕ, zero, suc, ◌+◌, ◌<◌, ◌≤◌, max, not, Bool, true, false, ◌||◌, ◌&&◌, List, length, [], ◌∷◌, ◌++◌, nat_eq, Option, Some, None, Ok, Err, arith}
+use Rattle.std.proofs.Common.{◌≡◌, inl, inr, refl, subst, ap, sym, ◌∙◌, ℕ, zero, suc, ◌+◌, ◌≤◌, Bool, true, false, List, [], arith}
 use Rattle.c_tokens.specs.declared.token.Shape.{Shape}
-use Rattle.c_tokens.specs.declared.token.Shape.TheVariants as shape
-use Rattle.c_tokens.specs.declared.token.Word.{Word}
 use Rattle.c_tokens.specs.declared.token.Punct.TheVariants as punct
 use Rattle.c_tokens.specs.declared.class.Class.TheVariants as class
-use Rattle.c_tokens.specs.ClassNumbers.{class_number}
 use Rattle.c_forms.specs.declared.pieces.Event.TheVariants as event
 use Rattle.c_forms.specs.declared.pieces.Sort.{Sort}
 use Rattle.c_forms.specs.declared.pieces.Sort.TheVariants as s
 use Rattle.c_forms.specs.declared.forms.Form.{Form}
 use Rattle.c_forms.specs.declared.forms.Form.TheVariants as form
-use Rattle.c_forms.specs.declared.forms.ExpForm.TheVariants as exp
-use Rattle.c_forms.specs.declared.forms.SpecForm.TheVariants as spec
 use Rattle.c_forms.specs.declared.forms.DeclaratorForm.{DeclaratorForm}
 use Rattle.c_forms.specs.declared.forms.DeclaratorForm.TheVariants as declarator
-use Rattle.c_forms.specs.declared.forms.GroupForm.TheVariants as group
 use Rattle.c_forms.specs.Forests.{Plain}
 use Rattle.c_forms.specs.Forests as forests
-use Rattle.c_forms.specs.Measures.{level, pieces}
-use Rattle.c_forms.specs.Sets.{Classes, has, starts, goes_on, type_word}
-use Rattle.c_reader.specs.States.{State, seen, class as class_in, happens}
-use Rattle.c_reader.specs.Tokens.{Spot, spot, step, turned, raw_at, seen_at, class_at}
-use Rattle.c_reader.specs.Readers.{Input, Reader, Found, Outcome, Body, Rule, Of, Opened, read, below}
+use Rattle.c_forms.specs.Measures.{pieces}
+use Rattle.c_forms.specs.Sets.{has, starts, goes_on}
+use Rattle.c_reader.specs.States.{happens}
+use Rattle.c_reader.specs.Tokens.{Spot, step, turned, class_at}
+use Rattle.c_reader.specs.Readers.{read, below}
 use Rattle.c_reader.proofs.Local.{from}
 use Rattle.c_reader.proofs.Sets.{contrary}
 use Rattle.c_syntax.specs.Allowed.{places}
-use Rattle.c_syntax.specs.Reading.{Usual, Parts, called, is_absent, is_starred, inside, spanned}
-use Rattle.c_syntax.specs.Grammar.{Standing, absent_at, opened, at_sort, in_place, body}
-use Rattle.c_syntax.specs.Spells.{Spelling, nothing_spelled, Is, Matches, parts_spelled, IsNode, Wraps, may_be, AnyWord, ValueWord, IsLiteral, after_name, At, InPlace, Spells}
+use Rattle.c_syntax.specs.Reading.{Usual, is_absent, is_starred, spanned}
+use Rattle.c_syntax.specs.Grammar.{opened, in_place, body}
+use Rattle.c_syntax.specs.Spells.{Spelling, nothing_spelled, Is, Matches, parts_spelled, IsNode, may_be, AnyWord, InPlace, Spells}
 use Rattle.c_spelled.specs.Fitting.{is_read, need}
 use Rattle.c_spelled.proofs.Off.{Off}
 use Rattle.c_spelled.proofs.Begins.{AllBegin, in_place_begins, spells_begin}
-use Rattle.c_spelled.proofs.Balance.{AllSame, spells_same}
+use Rattle.c_spelled.proofs.Balance.{spells_same}
 use Rattle.c_spelled.proofs.Groups.{Got}
-use Rattle.c_spelled.proofs.Pieces.{AllRead}
-use Rattle.c_spelled.proofs.Params.{params_read}
-use Rattle.c_spelled.proofs.Climb.{AllCalled, Lower, called_read}
-use Rattle.c_spelled.proofs.Exps.{EndOff, RisesExp, exp_read, exp_rises, opened_read}
-use Rattle.c_spelled.proofs.Heads.{Clear, RisesSo, There}
+use Rattle.c_spelled.proofs.Exps.{EndOff, RisesExp, exp_rises, opened_read}
+use Rattle.c_spelled.proofs.Heads.{RisesSo, There}
 use Rattle.c_spelled.proofs.Declarators as with_name
 use Rattle.c_spelled.proofs.Abstracts as without_name
 use Rattle.c_spelled.proofs.ParamDeclarators as of_parameter
 use Rattle.c_spelled.proofs.MemberNames as of_member
-use Rattle.c_spelled.proofs.Stmts.{AtWord, stmt_read}
-use Rattle.c_spelled.proofs.Blocks.{AtType, block_item_read}
 use Rattle.c_spelled.proofs.Nodes.{Room}
 use Rattle.c_spelled.proofs.Alone.{declarator_is, abstract_is, param_is}
 use Rattle.c_spelled.proofs.Sorts.{DeclaratorsRise, Deep, in_place_read, leaf_reads, literals, declareds, no_absent}

@@ -1,7 +1,7 @@
 -- What spells an expression is read (ISO/IEC 9899:1990, 6.3).
-use Rattle.std.proofs.Common.{◌≡◌, ◌⊎◌, inl, inr, refl, subst, ap, sym, ◌∙◌, ℕ, zero, suc, ◌+◌, ◌-◌, ◌<◌, ◌≤◌, max, not, nat_lt, Bool, true, false, ◌||◌, ◌&&◌, List, length, [], ◌∷◌, ◌++◌, nat_eq, Option, Some, None, Ok, Err, arith}
-use Rattle.std.proofs.lemmas.Bool.{lt-ltb, eq-eqb, and_from, or_left, or_right}
-use borrow.Author.Tests.{ltb-true, ltb-false}
+use Rattle.std.proofs.Common.{◌≡◌, ◌⊎◌, inl, inr, refl, subst, ap, sym, ◌∙◌, ℕ, zero, suc, ◌+◌, ◌-◌, ◌<◌, ◌≤◌, max, nat_lt, Bool, true, false, ◌||◌, ◌&&◌, List, [], ◌∷◌, nat_eq, Option, Some, None, Ok, arith}
+use Rattle.std.proofs.lemmas.Bool.{lt-ltb, eq-eqb, and_from}
+use borrow.Author.Tests.{ltb-false}
 use Rattle.c_tokens.specs.declared.token.Key.TheVariants as key
 use Rattle.c_tokens.specs.declared.token.Punct.{Punct}
 use Rattle.c_tokens.specs.declared.token.Punct.TheVariants as punct
@@ -21,33 +21,28 @@ use Rattle.c_forms.specs.declared.forms.Form.{Form}
 use Rattle.c_forms.specs.declared.forms.Form.TheVariants as form
 use Rattle.c_forms.specs.declared.forms.ExpForm.{ExpForm}
 use Rattle.c_forms.specs.declared.forms.ExpForm.TheVariants as exp
-use Rattle.c_forms.specs.declared.forms.SpecForm.TheVariants as spec
-use Rattle.c_forms.specs.declared.forms.StmtForm.TheVariants as stmt
-use Rattle.c_forms.specs.declared.forms.ItemForm.TheVariants as item
-use Rattle.c_forms.specs.declared.forms.TemplateForm.TheVariants as template
-use Rattle.c_forms.specs.declared.forms.GroupForm.TheVariants as group
 use Rattle.c_forms.specs.Forests.{Plain}
 use Rattle.c_forms.specs.Forests as forests
 use Rattle.c_forms.specs.Measures.{level, pieces}
 use Rattle.c_forms.specs.Tokens.{begun, continued}
-use Rattle.c_forms.specs.Sets.{Classes, has, within, starts, goes_on, all_puncts}
-use Rattle.c_reader.specs.States.{State, seen, class as class_in, happens}
-use Rattle.c_reader.specs.Tokens.{Spot, spot, step, turned, raw_at, seen_at, class_at}
-use Rattle.c_reader.specs.Readers.{Input, Reader, Found, Outcome, Body, Rule, Of, Opened, Give, Refuse, Look, Next, Pick, Bind, Fits, Call, Ask, Change, read, below, and_then, choose, when, pick, only, ◌>>=◌, ◌>>◌, token}
+use Rattle.c_forms.specs.Sets.{has, starts, goes_on, all_puncts}
+use Rattle.c_reader.specs.States.{State, class as class_in, happens}
+use Rattle.c_reader.specs.Tokens.{Spot, step, turned, raw_at, seen_at, class_at}
+use Rattle.c_reader.specs.Readers.{Reader, Found, Outcome, Body, Opened, Refuse, Look, Next, Fits, Change, read, below, and_then, choose, when}
 use Rattle.c_reader.proofs.Local.{from}
-use Rattle.c_reader.proofs.Sets.{both, not_true, contrary, itself, single, only_single, same_class}
+use Rattle.c_reader.proofs.Sets.{both, contrary, itself, single, only_single, same_class}
 use Rattle.c_syntax.specs.Allowed.{places}
-use Rattle.c_syntax.specs.Reading.{Listed, Parts, nothing, one, node, deeper as deeper_one, called, parts_of, is_starred, spanned, is_class, Usual, joined, height_over, completed}
-use Rattle.c_syntax.specs.Grammar.{Standing, standing, sign, is_sign, begins, left_level, after_first, after_paren, may_follow, tight, whole, type_or, entered, sized, sized_opened, begun_by, primary, expression, opened, parenthesized, climb}
-use Rattle.c_syntax.specs.Spells.{Spelling, Is, Matches, Levels, parts_spelled, IsNode, Wraps, may_be, IsLiteral, Parted, Chain}
-use Rattle.c_spelled.specs.Fitting.{is_read, reads, follows, fitting, blank, need, needs, bound, is_leveled, is_apt, unapt, loose, prefix, operands_fit}
-use Rattle.c_spelled.proofs.Off.{Off, on_here, off, off_both, off_left, off_right}
-use Rattle.c_spelled.proofs.Opens.{Begun, starts_so}
+use Rattle.c_syntax.specs.Reading.{Parts, nothing, one, node, deeper as deeper_one, called, parts_of, is_starred, spanned, is_class, Usual, completed}
+use Rattle.c_syntax.specs.Grammar.{Standing, standing, is_sign, begins, left_level, after_first, after_paren, may_follow, tight, whole, type_or, entered, sized, sized_opened, begun_by, primary, expression, opened, parenthesized, climb}
+use Rattle.c_syntax.specs.Spells.{Spelling, Is, Matches, Levels, parts_spelled, IsNode, Wraps, IsLiteral, Parted, Chain}
+use Rattle.c_spelled.specs.Fitting.{reads, follows, fitting, blank, needs, bound, is_apt, unapt, loose, prefix, operands_fit}
+use Rattle.c_spelled.proofs.Off.{Off, on_here, off, off_both, off_left}
+use Rattle.c_spelled.proofs.Opens.{starts_so}
 use Rattle.c_spelled.proofs.Begins.{AllBegin}
 use Rattle.c_spelled.proofs.Groups.{Got}
-use Rattle.c_spelled.proofs.Pieces.{AllRead, GotParts, is_it, is_not}
-use Rattle.c_spelled.proofs.Shapes.{is_punct, is_key}
-use Rattle.c_spelled.proofs.Nodes.{Room, Parts_match, off_within, same_got, whole_read, the_parts, complete_node}
+use Rattle.c_spelled.proofs.Pieces.{AllRead, is_it}
+use Rattle.c_spelled.proofs.Shapes.{is_punct}
+use Rattle.c_spelled.proofs.Nodes.{Room, off_within, whole_read, the_parts, complete_node}
 use Rattle.c_spelled.proofs.Levels.{off_unapt, off_operator}
 use Rattle.c_spelled.proofs.Alone.{exp_is}
 use Rattle.c_spelled.proofs.Climb.{AllCalled, Lower, called_read, in_parens, Tight, tight_in, stand, stands_at, tight_at, Rises, begin, longer, finish, ends_at}
@@ -123,12 +118,12 @@ module _ (body : Body) (d top : ℕ) (w : List Shape) (levels : Type 0) (room : 
       let fit' = both (fitting s.Exp f (pieces f)) _ fit.1 in
       let G = whole_read body d top w levels room 1 deeper inner part DB IB DE IE s.Exp f parts i j left fit.0 N fit'.0 (off_within (follows s.Exp (pieces f)) (unapt s.Exp (level f)) w j.place fit'.1 o) M in
       begin body d w s.Exp l i.place (Enters body d w l i) (primary part l) (top + 1) i (forests.node f (spanned i.place j.place) parts) m G.height (level f) j (inl tight) (omega (arith, G.low))
-          (at_primary l i false (ap (λ k. nat_eq k (class_number (class.Punct punct.LeftParen))) c ∙ n)
-          ∙ ap (λ b. read body d (others_by l i b) (from w i)) (ap (λ k. nat_eq k (class_number (class.Key key.Sizeof))) c ∙ n')
-          ∙ ap (λ b. read body d (choose b (begun_by part l (begun s.Exp (raw_at w i.place))) Refuse) (from w i)) (ap (has (starts s.Exp)) c ∙ b)
-          ∙ ap (λ o. read body d (begun_by part l o) (from w i)) (ap (begun s.Exp) e ∙ g)
-          ∙ tight_at body d w l f (whole part s.Exp f) top (forests.node f (spanned i.place j.place) parts) i j G (omega (arith, le, tight)))
-          (not_paren l i num _ j c n)
+      (at_primary l i false (ap (λ k. nat_eq k (class_number (class.Punct punct.LeftParen))) c ∙ n)
+      ∙ ap (λ b. read body d (others_by l i b) (from w i)) (ap (λ k. nat_eq k (class_number (class.Key key.Sizeof))) c ∙ n')
+      ∙ ap (λ b. read body d (choose b (begun_by part l (begun s.Exp (raw_at w i.place))) Refuse) (from w i)) (ap (has (starts s.Exp)) c ∙ b)
+      ∙ ap (λ o. read body d (begun_by part l o) (from w i)) (ap (begun s.Exp) e ∙ g)
+      ∙ tight_at body d w l f (whole part s.Exp f) top (forests.node f (spanned i.place j.place) parts) i j G (omega (arith, le, tight)))
+      (not_paren l i num _ j c n)
 
   looser : (m n l : ℕ) → m ≤ n → Tight n l → Tight m l
   looser m n l e (inl k) = inl (omega (arith, e, k))
@@ -152,17 +147,16 @@ module _ (body : Body) (d top : ℕ) (w : List Shape) (levels : Type 0) (room : 
       let few' : n ≤ 17 = ltb-false 17 n few in
       let k : Spot = M.place in
       let R : RisesExp body d w part l top i M.first n k = DR n l M.first i k M.is_first (omega (arith, le, tight, up')) (λ l' T. off_both (prefix s.Exp) (loose s.Exp l' all_puncts) w k.place
-          (λ state. ap (λ x. has (prefix s.Exp) (class_in state x)) raw ∙ no_string_in p) (off_operator s.Exp l' p f w k raw found (apt_so f n l' up' few' left_is T))) in
+      (λ state. ap (λ x. has (prefix s.Exp) (class_in state x)) raw ∙ no_string_in p) (off_operator s.Exp l' p f w k raw found (apt_so f n l' up' few' left_is T))) in
       let ahead : k.place < j.place = elim (starts_so w deeper DB s.Exp f Usual (after_first (pieces f)) M.others k j (both (reads s.Exp (after_first (pieces f))) _ F).0 M.are_others) [
         | inl s ↦ s.less
         | inr b ↦ absurd (contrary (blank s.Exp Usual (after_first (pieces f))) b.may bl)
       ] in
       let X = longer body d w s.Exp l i.place (Enters body d w l i) deeper top DB DE (primary part l) i k j M.first M.others f n (after_first (pieces f)) p refl (room left) under R few' (omega (arith, le, tight)) raw found left_is refl star (follow k.state M.first) F
-          (ltb-false places (needs s.Exp (after_first (pieces f))) N) o M.are_others ahead in
+      (ltb-false places (needs s.Exp (after_first (pieces f))) N) o M.are_others ahead in
       let made : Rises body d w s.Exp l i.place (Enters body d w l i) (primary part l) (top + 1) i (forests.node f (spanned i.place j.place) parts) (level f) j =
-          subst (λ ts. Rises body d w s.Exp l i.place (Enters body d w l i) (primary part l) (top + 1) i (forests.node f (spanned i.place j.place) ts) (level f) j) (sym M.value) X in
+      subst (λ ts. Rises body d w s.Exp l i.place (Enters body d w l i) (primary part l) (top + 1) i (forests.node f (spanned i.place j.place) ts) (level f) j) (sym M.value) X in
       record { level = made.level; tight = looser m (level f) made.level tight made.tight; height = made.height; low = made.low; first = made.first; place = made.place; start = made.start; comes = made.comes; kept = made.kept }
-
 
   -- ---- forms with parentheses of their own
 
@@ -177,7 +171,7 @@ module _ (body : Body) (d top : ℕ) (w : List Shape) (levels : Type 0) (room : 
   in_type named other i b e = ap (λ b. read body d (choose b named (Change event.Resume other)) (from w (aside (step i)))) e
 
   type_begins : (t : Plain) (i j : Spot) → deeper s.TypeName 0 t i j → has (starts s.TypeName) (class_at w i) ≡ true
-  type_begins t i j p = elim (DB s.TypeName 0 t i j refl p) [ | inl b ↦ b.0 | inr e ↦ absurd (cc e.0) ]
+  type_begins t i j p = elim (DB s.TypeName 0 t i j refl p) [ inl b ↦ b.0 | inr e ↦ absurd (cc e.0) ]
 
   fits_here : (r : Reader Standing) (i : Spot) → levels → read body d (Fits 0 r) (from w i) ≡ read body d r (from w i)
   fits_here r i l = ap (λ b. when b (read body d r (from w i)) i.place) (lt-ltb 0 d (room l).0)
@@ -190,7 +184,7 @@ module _ (body : Body) (d top : ℕ) (w : List Shape) (levels : Type 0) (room : 
       let fit = both (reads s.Exp ps) _ F in
       let fit' = both (fitting s.Exp f ps) _ fit.1 in
       complete_node body d top w levels room 1 deeper inner part DB IB DE IE s.Exp f i.place nothing ps parts k j left (omega arith)
-          (the_parts body d top w levels room 1 deeper inner part DB IB DE IE s.Exp f ps parts k j fit.0 N fit'.0 (off_within (follows s.Exp ps) (unapt s.Exp (level f)) w j.place fit'.1 o) M)
+      (the_parts body d top w levels room 1 deeper inner part DB IB DE IE s.Exp f ps parts k j fit.0 N fit'.0 (off_within (follows s.Exp ps) (unapt s.Exp (level f)) w j.place fit'.1 o) M)
 
   abbrev tight_type : ℕ → Spot → Reader Standing
   tight_type l i = tight l (form.Exp exp.SizeofType) (completed called s.Exp (form.Exp exp.SizeofType) i.place nothing (after_paren (pieces (form.Exp exp.SizeofType))))
@@ -217,7 +211,7 @@ module _ (body : Body) (d top : ℕ) (w : List Shape) (levels : Type 0) (room : 
           let t : Plain = forests.node f (spanned i.place j.place) parts in
           let G : Got (read body d (plain_operand i) (from w (step i))) top t w j = typed_parts f (after_first (pieces f)) l m parts i (step i) j le high v v o M.1 refl (omega arith) in
           begin body d w s.Exp l i.place (Enters body d w l i) (primary part l) (top + 1) i t m G.height 15 j (inl high) (omega (arith, G.low))
-              (at_sizeof l i v M.0 ∙ paren_after l i false e ∙ tight_at body d w l f (plain_operand i) top t (step i) j G (omega (arith, le, high))) (not_paren l i 22 _ j M.0 refl)
+          (at_sizeof l i v M.0 ∙ paren_after l i false e ∙ tight_at body d w l f (plain_operand i) top t (step i) j G (omega (arith, le, high))) (not_paren l i 22 _ j M.0 refl)
       by_paren true e =
           let f : Form = form.Exp exp.SizeofExp in
           let t : Plain = forests.node f (spanned i.place j.place) parts in
@@ -233,8 +227,8 @@ module _ (body : Body) (d top : ℕ) (w : List Shape) (levels : Type 0) (room : 
             reads = ap (λ o. and_then o (λ x j. Ok (node f i.place j.at.place (one (deeper_one x)), j))) X.1.reads ∙ ap (λ t. Ok (record { tree = t; height = max 1 (X.1.height + 1) }, from w P.place)) made ∙ ap (λ k. Ok (record { tree = t; height = max 1 (X.1.height + 1) }, from w k)) place;
           } in
           begin body d w s.Exp l i.place (Enters body d w l i) (primary part l) (top + 1) i t m G.height 15 j (inl high) (omega (arith, G.low))
-              (at_sizeof l i v M.0 ∙ paren_after l i true e ∙ in_type (tight_type l i) (tight l f (sized_opened i.place)) (step i) false X.0
-              ∙ tight_at body d w l f (sized_opened i.place) top t (step (step i)) j G (omega (arith, le, high))) (not_paren l i 22 _ j M.0 refl)
+          (at_sizeof l i v M.0 ∙ paren_after l i true e ∙ in_type (tight_type l i) (tight l f (sized_opened i.place)) (step i) false X.0
+          ∙ tight_at body d w l f (sized_opened i.place) top t (step (step i)) j G (omega (arith, le, high))) (not_paren l i 22 _ j M.0 refl)
 
   exp_node : (f : ExpForm) (l m : ℕ) (parts : List Plain) (i j : Spot) → l ≤ m → m ≤ level (form.Exp f) → Levels (is_starred (form.Exp f)) levels → Off (unapt s.Exp (level (form.Exp f))) w j.place
       → Here (form.Exp f) (pieces (form.Exp f)) parts i j → Goal l m (form.Exp f) parts i j
@@ -262,21 +256,21 @@ module _ (body : Body) (d top : ℕ) (w : List Shape) (levels : Type 0) (room : 
       let k : Spot = aside (step (step i)) in
       let G : Got (read body d (completed called s.Exp f i.place nothing (after_paren (pieces f))) (from w k)) top t w j = typed_parts f (after_paren (pieces f)) l m parts i k j le high left left o M.1.1.1 refl (omega arith) in
       begin body d w s.Exp l i.place (Enters body d w l i) (primary part l) (top + 1) i t m G.height (level f) j (inl high) (omega (arith, G.low))
-          (at_sizeof l i left M.0 ∙ paren_after l i true (is_it w (class.Punct punct.LeftParen) (step i) M.1.0)
-          ∙ in_type (tight_type l i) (tight l (form.Exp exp.SizeofExp) (sized_opened i.place)) (step i) true (type_begins M.1.1.1.first k M.1.1.1.place M.1.1.1.is_first)
-          ∙ tight_at body d w l f (completed called s.Exp f i.place nothing (after_paren (pieces f))) top t k j G (omega (arith, le, high)))
-          (not_paren l i 22 _ j M.0 refl)
+      (at_sizeof l i left M.0 ∙ paren_after l i true (is_it w (class.Punct punct.LeftParen) (step i) M.1.0)
+      ∙ in_type (tight_type l i) (tight l (form.Exp exp.SizeofExp) (sized_opened i.place)) (step i) true (type_begins M.1.1.1.first k M.1.1.1.place M.1.1.1.is_first)
+      ∙ tight_at body d w l f (completed called s.Exp f i.place nothing (after_paren (pieces f))) top t k j G (omega (arith, le, high)))
+      (not_paren l i 22 _ j M.0 refl)
   exp_node exp.Cast l m parts i j le high left o M =
       let f : Form = form.Exp exp.Cast in
       let t : Plain = forests.node f (spanned i.place j.place) parts in
       let k : Spot = aside (step i) in
       let G : Got (read body d (completed called s.Exp f i.place nothing (after_paren (pieces f))) (from w k)) top t w j = typed_parts f (after_paren (pieces f)) l m parts i k j le high left left o M.1.1 refl (omega arith) in
       begin body d w s.Exp l i.place (Enters body d w l i) (primary part l) (top + 1) i t m G.height (level f) j (inl high) (omega (arith, G.low))
-          (at_primary l i true (is_it w (class.Punct punct.LeftParen) i M.0)
-          ∙ fits_here (type_or (tight l f (completed called s.Exp f i.place nothing (after_paren (pieces f)))) (standing 17 (parenthesized s.Exp))) i left
-          ∙ in_type (tight l f (completed called s.Exp f i.place nothing (after_paren (pieces f)))) (standing 17 (parenthesized s.Exp)) i true (type_begins M.1.1.first k M.1.1.place M.1.1.is_first)
-          ∙ tight_at body d w l f (completed called s.Exp f i.place nothing (after_paren (pieces f))) top t k j G (omega (arith, le, high)))
-          (λ h _. absurd (omega (arith, h, le, high)))
+      (at_primary l i true (is_it w (class.Punct punct.LeftParen) i M.0)
+      ∙ fits_here (type_or (tight l f (completed called s.Exp f i.place nothing (after_paren (pieces f)))) (standing 17 (parenthesized s.Exp))) i left
+      ∙ in_type (tight l f (completed called s.Exp f i.place nothing (after_paren (pieces f)))) (standing 17 (parenthesized s.Exp)) i true (type_begins M.1.1.first k M.1.1.place M.1.1.is_first)
+      ∙ tight_at body d w l f (completed called s.Exp f i.place nothing (after_paren (pieces f))) top t k j G (omega (arith, le, high)))
+      (λ h _. absurd (omega (arith, h, le, high)))
   exp_node exp.Index l m parts i j le high left o M = by_operator (form.Exp exp.Index) 16 punct.LeftBracket l m parts i j le high left o M (is_punct M.place.state (raw_at w M.place.place) punct.LeftBracket M.are_others.0) refl refl refl refl refl (λ _ _. refl) refl refl refl
   exp_node exp.Apply l m parts i j le high left o M = by_operator (form.Exp exp.Apply) 16 punct.LeftParen l m parts i j le high left o M (is_punct M.place.state (raw_at w M.place.place) punct.LeftParen M.are_others.0) refl refl refl refl refl (λ _ _. refl) refl refl refl
   exp_node exp.Field l m parts i j le high left o M = by_operator (form.Exp exp.Field) 16 punct.Dot l m parts i j le high left o M (is_punct M.place.state (raw_at w M.place.place) punct.Dot M.are_others.0) refl refl refl refl refl (λ _ _. refl) refl refl refl
@@ -328,17 +322,17 @@ module _ (body : Body) (d top : ℕ) (w : List Shape) (levels : Type 0) (room : 
       let L = DC s.Exp 1 t (step i) W.last refl W.within (paren_off W.last W.closes) in
       let G : Got (read body d (parenthesized s.Exp) (from w (step i))) top t w j = in_parens body d w s.Exp top t (step i) W.last j L W.closes W.ends in
       let S : read body d (standing 17 (parenthesized s.Exp)) (from w (step i)) ≡ Ok (stand t G.height 17, from w j) = stands_at body d w 17 (parenthesized s.Exp) top t (step i) j G in
-      let B : has (starts s.Exp) (class_at w (step i)) ≡ true = elim (DB s.Exp 1 t (step i) W.last refl W.within) [ | inl b ↦ b.0 | inr e ↦ absurd (cc e.0) ] in
+      let B : has (starts s.Exp) (class_at w (step i)) ≡ true = elim (DB s.Exp 1 t (step i) W.last refl W.within) [ inl b ↦ b.0 | inr e ↦ absurd (cc e.0) ] in
       begin body d w s.Exp l i.place (Enters body d w l i) (primary part l) (top + 1) i t m G.height 17 j (inr refl) (omega (arith, G.low))
-          (at_primary l i true (is_it w (class.Punct punct.LeftParen) i W.opens) ∙ fits_here (type_or (paren_type l i) (standing 17 (parenthesized s.Exp))) i W.left
-          ∙ in_type (paren_type l i) (standing 17 (parenthesized s.Exp)) i false W.begins ∙ S)
-          (λ _ _. (W.begins, ap (λ b. read body d (choose b (Fits 0 (standing 17 (parenthesized s.Exp))) Refuse) (from w (step i))) B ∙ fits_here (standing 17 (parenthesized s.Exp)) (step i) W.left ∙ S))
+      (at_primary l i true (is_it w (class.Punct punct.LeftParen) i W.opens) ∙ fits_here (type_or (paren_type l i) (standing 17 (parenthesized s.Exp))) i W.left
+      ∙ in_type (paren_type l i) (standing 17 (parenthesized s.Exp)) i false W.begins ∙ S)
+      (λ _ _. (W.begins, ap (λ b. read body d (choose b (Fits 0 (standing 17 (parenthesized s.Exp))) Refuse) (from w (step i))) B ∙ fits_here (standing 17 (parenthesized s.Exp)) (step i) W.left ∙ S))
 
   by_node : (l m : ℕ) (t : Plain) (i j : Spot) → IsNode levels deeper inner w s.Exp m t i j → l ≤ m → EndOff s.Exp w m j → RisesExp body d w part l (top + 1) i t m j
   by_node l m t i j N le o =
       let g = exp_is t.form N.may in
       let M : (m ≤ level (form.Exp g.0)) × (Levels (is_starred (form.Exp g.0)) levels × Here (form.Exp g.0) (pieces (form.Exp g.0)) N.parts i j) =
-          subst (λ f. (m ≤ level f) × (Levels (is_starred f) levels × Here f (pieces f) N.parts i j)) g.1 (N.tight, (N.left, N.matches)) in
+      subst (λ f. (m ≤ level f) × (Levels (is_starred f) levels × Here f (pieces f) N.parts i j)) g.1 (N.tight, (N.left, N.matches)) in
       let X : Goal l m (form.Exp g.0) N.parts i j = exp_node g.0 l m N.parts i j le M.0 M.1.0 (o (level (form.Exp g.0)) (inl M.0)) M.1.1 in
       subst (λ t. RisesExp body d w part l (top + 1) i t m j) (ap (λ f. forests.node f (spanned i.place j.place) N.parts) (sym g.1) ∙ sym N.value) X
 
@@ -357,11 +351,13 @@ module _ (body : Body) (d top : ℕ) (w : List Shape) (levels : Type 0) (room : 
   opened_read t i j A c o =
       let R = exp_rises 15 15 t i j A (omega arith) (end_off 15 w j o) in
       let K = R.kept (omega arith) c in
-      let back : (step i).place - 1 ≡ i.place = omega arith in
-      (K.0, record {
-        height = R.height;
-        low = omega (arith, R.low);
-        reads = ap (λ o. and_then o (λ y j. read body d (climb s.Exp 15 ((step i).place - 1) y) j)) K.1
-            ∙ ap (λ n. read body d (climb s.Exp 15 n R.first) (from w R.place)) back
-            ∙ ends_at body d w s.Exp 15 i.place (Enters body d w 15 i) (primary part 15) (top + 1) i t 15 j refl R o;
-      })
+      let back : (step i).place - 1 ≡ i.place = omega arith in (
+        K.0,
+        record {
+          height = R.height;
+          low = omega (arith, R.low);
+          reads = ap (λ o. and_then o (λ y j. read body d (climb s.Exp 15 ((step i).place - 1) y) j)) K.1
+              ∙ ap (λ n. read body d (climb s.Exp 15 n R.first) (from w R.place)) back
+              ∙ ends_at body d w s.Exp 15 i.place (Enters body d w 15 i) (primary part 15) (top + 1) i t 15 j refl R o;
+        },
+      )

@@ -1,5 +1,5 @@
 -- What spells the elements of a repetition is read.
-use Rattle.std.proofs.Common.{◌≡◌, ◌⊎◌, inl, inr, refl, subst, ap, sym, ◌∙◌, ℕ, zero, suc, ◌+◌, ◌<◌, ◌≤◌, max, not, Bool, true, false, ◌||◌, ◌&&◌, List, length, [], ◌∷◌, ◌++◌, nat_eq, Option, Some, None, Ok, Err, arith}
+use Rattle.std.proofs.Common.{◌≡◌, ◌⊎◌, inl, inr, refl, subst, ap, sym, ◌∙◌, ℕ, zero, suc, ◌+◌, ◌<◌, ◌≤◌, max, Bool, true, false, List, length, [], ◌∷◌, ◌++◌, nat_eq, Option, Some, None, Ok, arith}
 use Rattle.c_tokens.specs.declared.token.Shape.{Shape}
 use Rattle.c_tokens.specs.declared.class.Class.{Class}
 use Rattle.c_tokens.specs.ClassNumbers.{class_number}
@@ -8,15 +8,14 @@ use Rattle.c_forms.specs.declared.pieces.Repetition.{Repetition}
 use Rattle.c_forms.specs.declared.pieces.Repetition.TheVariants.{Optional, Greedy, Due, All, Any, Many, Spliced, Ended}
 use Rattle.c_forms.specs.Forests.{Plain}
 use Rattle.c_forms.specs.Sets.{Classes, has, given, starts, element_starts, goes_on, goes_on_with}
-use Rattle.c_reader.specs.States.{Seen}
-use Rattle.c_reader.specs.Tokens.{Spot, spot, step, seen_at, class_at}
-use Rattle.c_reader.specs.Readers.{Input, Reader, Found, Outcome, Turn, More, Last, Body, Give, Look, Next, Bind, Loop, read, and_then, choose, turn_while, ◌>>=◌}
+use Rattle.c_reader.specs.Tokens.{Spot, step, seen_at, class_at}
+use Rattle.c_reader.specs.Readers.{Input, Reader, Found, Outcome, Turn, More, Last, Body, Give, Look, Next, Bind, read, and_then, choose, turn_while, ◌>>=◌}
 use Rattle.c_reader.proofs.Local.{from}
 use Rattle.c_reader.proofs.Sets.{both, not_true, has_left, has_none, itself, single, same_class}
-use Rattle.c_syntax.specs.Reading.{Gathered, none_at, with_last, ended, element_after, separated, separator_of, goes, others, others_ended, ended_turn, is_class, many, at_most_one, any_number, gathered_by, gathered, Before, is_missing}
-use Rattle.c_syntax.specs.Spells.{Is, Separated, Longer, Chain, Elements, Absent, Once, AnyNumber, IsGroup}
+use Rattle.c_syntax.specs.Reading.{Gathered, none_at, with_last, ended, element_after, separated, separator_of, goes, others, others_ended, ended_turn, is_class, many, at_most_one, any_number, gathered_by, Before, is_missing}
+use Rattle.c_syntax.specs.Spells.{Is, Separated, Chain, Elements, Absent, Once, IsGroup}
 use Rattle.c_spelled.specs.Fitting.{parted, between_set, between_fits, elements_fit, goes_after, group_goes_on, absent_ends, source_end}
-use Rattle.c_spelled.proofs.Off.{Off, On, on_here, off, off_left, off_right, in_list}
+use Rattle.c_spelled.proofs.Off.{Off, on_here, off, off_left, off_right, in_list}
 use Rattle.c_spelled.proofs.Opens.{chain_begins}
 use Rattle.c_spelled.proofs.Turns.{Comes, stay, go, stop}
 
@@ -128,7 +127,7 @@ module _ (body : Body) (d top : ℕ) (w : List Shape) (due : Sort) (least : ℕ)
           place = H.place;
           is_first = H.is_first;
           ends = H.ends;
-          next = inr (elim (H.next) [ | inl e ↦ ap (λ k. has (between_set c due) (class_at w k)) e ∙ on | inr e ↦ e ]);
+          next = inr (elim (H.next) [ inl e ↦ ap (λ k. has (between_set c due) (class_at w k)) e ∙ on | inr e ↦ e ]);
           onward = λ h le. let R : Onward C.before C.place H.tree H.place h = H.onward h le in
               let here : Gathered = listed C.before R.height C.place.place false in
               let there : Gathered = listed (C.before ++ (C.last ∷ [])) (max R.height G.height) j.place false in
@@ -245,18 +244,20 @@ module _ (body : Body) (d top : ℕ) (w : List Shape) (due : Sort) (least : ℕ)
     unfolding others_ended
     ended_read F G ts p i j C o =
         let H : Chained end_turns (Some c) F (end_turn_on G) ts p i j = chain_read end_turns (Some c) F (end_turn_on G) C.0 ts p i j C.1 o in
-        let here : Gathered = listed ts H.height j.place false in
-        ((λ x. record {
-          height = H.height;
-          low = H.low;
-          reads = ap (λ o. and_then o (λ g j. read body d (others_ended c e element g) j)) H.start
-              ∙ stop w end_turns H.first H.place here j here (from w j) H.comes (sees_separator here j false x) (d + length w) (omega arith);
-        }), (λ x y. record {
-          height = H.height;
-          low = H.low;
-          reads = ap (λ o. and_then o (λ g j. read body d (others_ended c e element g) j)) H.start
-              ∙ stop w end_turns H.first H.place here j (ended here) (from w (step j)) H.comes (sees_separator here j true (is_it c j x) ∙ sees_end here (step j) true (is_it e (step j) y)) (d + length w) (omega arith);
-        }))
+        let here : Gathered = listed ts H.height j.place false in (
+          (λ x. record {
+            height = H.height;
+            low = H.low;
+            reads = ap (λ o. and_then o (λ g j. read body d (others_ended c e element g) j)) H.start
+                ∙ stop w end_turns H.first H.place here j here (from w j) H.comes (sees_separator here j false x) (d + length w) (omega arith);
+          }),
+          (λ x y. record {
+            height = H.height;
+            low = H.low;
+            reads = ap (λ o. and_then o (λ g j. read body d (others_ended c e element g) j)) H.start
+                ∙ stop w end_turns H.first H.place here j (ended here) (from w (step j)) H.comes (sees_separator here j true (is_it c j x) ∙ sees_end here (step j) true (is_it e (step j) y)) (d + length w) (omega arith);
+          }),
+        )
 
   -- ---- each repetition
 

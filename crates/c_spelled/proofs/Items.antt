@@ -1,55 +1,46 @@
 -- What spells an external declaration is read (ISO/IEC 9899:1990, 6.7).
-use Rattle.std.proofs.Common.{◌≡◌, ◌⊎◌, inl, inr, refl, subst, ap, sym, ◌∙◌, ℕ, zero, suc, ◌+◌, ◌<◌, ◌≤◌, max, not, Bool, true, false, ◌||◌, ◌&&◌, List, length, [], ◌∷◌, ◌++◌, nat_eq, Option, Some, None, Ok, Err, arith}
+use Rattle.std.proofs.Common.{◌≡◌, inl, inr, refl, subst, ap, sym, ◌∙◌, ℕ, ◌<◌, ◌≤◌, max, not, Bool, true, false, ◌||◌, ◌&&◌, List, [], ◌∷◌, nat_eq, Some, Ok, arith}
 use Rattle.c_tokens.specs.declared.token.Shape.{Shape}
 use Rattle.c_tokens.specs.declared.token.Shape.TheVariants as shape
-use Rattle.c_tokens.specs.declared.token.Word.{Word}
 use Rattle.c_tokens.specs.declared.token.Punct.{Punct}
 use Rattle.c_tokens.specs.declared.token.Punct.TheVariants as punct
-use Rattle.c_tokens.specs.declared.class.Class.TheVariants as class
 use Rattle.c_tokens.specs.ClassNumbers.{class_number}
-use Rattle.c_forms.specs.declared.pieces.Event.TheVariants as event
 use Rattle.c_forms.specs.declared.pieces.Sort.{Sort}
 use Rattle.c_forms.specs.declared.pieces.Sort.TheVariants as s
 use Rattle.c_forms.specs.declared.forms.Form.{Form}
 use Rattle.c_forms.specs.declared.forms.Form.TheVariants as form
-use Rattle.c_forms.specs.declared.forms.ExpForm.TheVariants as exp
-use Rattle.c_forms.specs.declared.forms.SpecForm.TheVariants as spec
 use Rattle.c_forms.specs.declared.forms.GroupForm.TheVariants as group
 use Rattle.c_forms.specs.Forests.{Plain}
 use Rattle.c_forms.specs.Forests as forests
-use Rattle.c_forms.specs.Measures.{level, pieces}
-use Rattle.c_forms.specs.Sets.{Classes, has, starts, goes_on, may_be_empty, type_word}
-use Rattle.c_reader.specs.States.{State, is_function, seen, class as class_in, happens}
-use Rattle.c_reader.specs.Tokens.{Spot, spot, step, turned, raw_at, seen_at, class_at}
-use Rattle.c_reader.specs.Readers.{Input, Reader, Found, Outcome, Body, Give, Look, Ask, Change, read, and_then, choose, ◌>>=◌}
+use Rattle.c_forms.specs.Measures.{pieces}
+use Rattle.c_forms.specs.Sets.{Classes, has, starts, goes_on, may_be_empty}
+use Rattle.c_reader.specs.States.{is_function, seen}
+use Rattle.c_reader.specs.Tokens.{Spot, raw_at, seen_at, class_at}
+use Rattle.c_reader.specs.Readers.{Found, Outcome, Look, Ask, read, and_then, choose}
 use Rattle.c_reader.proofs.Local.{from}
-use Rattle.c_reader.proofs.Sets.{contrary, single, only_single, apart_has, has_neither}
-use Rattle.c_syntax.specs.Allowed.{may_happen, places}
-use Rattle.c_syntax.specs.Reading.{Usual, Before, before_by, Gathered, Listed, one, with_last, none_at, list_from, the_list, node, gathered, gathered_by, grouped, others, completed, Parts, called, is_absent, is_starred, inside, spanned}
-use Rattle.c_syntax.specs.Grammar.{sign, is_sign, whole, begins, after_first, after_part, goes_on_declaring, function_from, declaration_of, declaration_from, outer_by, outer, specified, unspecified, external, in_place, body, item_reader}
-use Rattle.c_syntax.specs.Spells.{Separated, Chain, Elements, AnyNumber, NoneBegins, Parted, IsList, IsGroup, started_by, has_no_specifiers, Levels, Spelling, nothing_spelled, Is, Matches, parts_spelled, IsNode, Wraps, may_be, AnyWord, ValueWord, IsLiteral, after_name, At, InPlace, Spells}
+use Rattle.c_reader.proofs.Sets.{contrary, single, only_single}
+use Rattle.c_syntax.specs.Allowed.{places}
+use Rattle.c_syntax.specs.Reading.{Usual, before_by, Gathered, one, with_last, none_at, list_from, the_list, node, gathered, gathered_by, grouped, others, Parts, called, is_absent, is_starred, spanned}
+use Rattle.c_syntax.specs.Grammar.{sign, is_sign, after_first, goes_on_declaring, function_from, declaration_of, declaration_from, outer_by, outer, specified, unspecified, external, in_place, body}
+use Rattle.c_syntax.specs.Spells.{Elements, Parted, IsGroup, Spelling, Matches, parts_spelled, IsNode, InPlace}
 use Rattle.c_spelled.specs.Fitting.{is_read, need}
-use Rattle.c_spelled.proofs.Off.{Off, On, on_here, off, off_left, off_right}
+use Rattle.c_spelled.proofs.Off.{Off, On, on_here, off}
 use Rattle.c_spelled.proofs.Begins.{AllBegin, in_place_begins}
-use Rattle.c_spelled.proofs.Balance.{AllSame, in_place_same, group_same}
+use Rattle.c_spelled.proofs.Balance.{AllSame, in_place_same}
 use Rattle.c_spelled.proofs.Groups.{Got, GotAll, listed, group_read, others_read, Others}
-use Rattle.c_spelled.proofs.Pieces.{AllRead, is_it, is_not}
-use Rattle.c_spelled.proofs.Params.{params_read}
+use Rattle.c_spelled.proofs.Pieces.{AllRead, is_not}
 use Rattle.c_spelled.proofs.Nodes.{Room, off_within, same_got, the_parts, complete_node}
 use Rattle.c_spelled.proofs.Sorts.{Deep, in_place_read}
-use Rattle.std.proofs.lemmas.Bool.{or_from, or_left, or_right, and_from}
+use Rattle.std.proofs.lemmas.Bool.{or_from, or_right, and_from}
 use Rattle.c_tokens.specs.declared.class.Class.{Class}
-use Rattle.c_forms.specs.declared.pieces.Repetition.TheVariants.{All, Any, Many, Spliced}
+use Rattle.c_forms.specs.declared.pieces.Repetition.TheVariants.{All, Spliced}
 use Rattle.c_forms.specs.declared.pieces.Piece.{Piece}
 use Rattle.c_forms.specs.declared.forms.ItemForm.TheVariants as item
 use Rattle.c_forms.specs.Forests.{forest}
-use Rattle.c_forms.specs.Rules.{is_none, in_first}
-use Rattle.c_forms.specs.Sets.{element_starts, goes_on_with}
-use Rattle.c_spelled.specs.Fitting.{opens, reads, follows, fitting, between_set}
-use Rattle.c_spelled.proofs.Opens.{Begun, Starts, starts_so, chain_begins}
+use Rattle.c_spelled.specs.Fitting.{opens, follows}
+use Rattle.c_spelled.proofs.Opens.{Starts, starts_so}
 use Rattle.c_spelled.proofs.Shapes.{is_punct}
-use Rattle.c_spelled.proofs.Params.{chain_some}
-use Rattle.c_spelled.proofs.Alone.{item_is, decl_form, init_declarator_form}
+use Rattle.c_spelled.proofs.Alone.{init_declarator_form}
 use Rattle.c_spelled.proofs.Climb.{called_read}
 
 abbrev pub the_function : Form
@@ -99,7 +90,7 @@ module _ (d top : ℕ) (w : List Shape) (levels : Type 0) (room : Room levels d 
   IS n = in_place_same n levels deeper w D.same
 
   pub sort_begins : (n : ℕ) (due : Sort) (least : ℕ) → is_read due ≡ true → may_be_empty due ≡ false → (t : Plain) (i j : Spot) → spelled n due least t i j → (has (starts due) (class_at w i) ≡ true) × (i.place < j.place)
-  sort_begins n due least r e t i j p = elim (IB n due least t i j r p) [ | inl b ↦ b | inr x ↦ absurd (contrary (may_be_empty due) x.0 e) ]
+  sort_begins n due least r e t i j p = elim (IB n due least t i j r p) [ inl b ↦ b | inr x ↦ absurd (contrary (may_be_empty due) x.0 e) ]
 
   sort_read : (n : ℕ) (due : Sort) (least : ℕ) → is_read due ≡ true → need due ≤ 8 → (t : Plain) (i j : Spot) → spelled n due least t i j → Off (goes_on due least) w j.place → Got (read body d (part due least) (from w i)) top t w j
   sort_read n due least r few t i j p o = IE n due least t i j r few p o
@@ -111,7 +102,7 @@ module _ (d top : ℕ) (w : List Shape) (levels : Type 0) (room : Room levels d 
   unfolding gathered
   specs_read m us i k G o =
       let A : GotAll (read body d (gathered_by All s.Spec (part s.Spec 0) Usual i.place) (from w i)) top us false k.place w k =
-          group_read body d top w s.Spec 0 (spelled m s.Spec 0) (part s.Spec 0) (sort_begins m s.Spec 0 refl refl) (sort_read m s.Spec 0 refl (omega arith)) All Usual us i k refl refl G o (λ _ _. refl) in
+      group_read body d top w s.Spec 0 (spelled m s.Spec 0) (part s.Spec 0) (sort_begins m s.Spec 0 refl refl) (sort_read m s.Spec 0 refl (omega arith)) All Usual us i k refl refl G o (λ _ _. refl) in
       (A.height, (A.low, ap (λ (o : Outcome Gathered). and_then (and_then {A = Gathered} {B = ℕ × Gathered} o (λ g j. Ok ((i.place, g), j))) (λ g j. Ok (list_from g.0 g.1, j))) A.reads))
 
   pub at_external : (i : Spot) (b : Bool) → has (starts s.Spec) (class_at w i) ≡ b → read body d (external part) (from w i) ≡ read body d (choose b (specified part i.place) (unspecified part i.place)) (from w i)
@@ -145,7 +136,7 @@ module _ (d top : ℕ) (w : List Shape) (levels : Type 0) (room : Room levels d 
       let G = IE 8 s.Declarator 1 M.first k p refl (omega arith) M.is_first (off (opens s.Item the_function after_head) (goes_on s.Declarator 1) w p.place refl begun) in
       let x : Found = record { tree = M.first; height = G.height } in
       let is : (p.state.kept.is_function_due || (is_function p.state && not (goes_on_declaring (seen_at w p)))) ≡ true =
-          or_right p.state.kept.is_function_due _ (and_from (is_function p.state) _ M.are_others.0 (ap not (not_declaring p (off (opens s.Item the_function after_head) declaring w p.place refl begun)))) in
+      or_right p.state.kept.is_function_due _ (and_from (is_function p.state) _ M.are_others.0 (ap not (not_declaring p (off (opens s.Item the_function after_head) declaring w p.place refl begun)))) in
       let P = the_parts body d top w levels room 8 deeper (spelled 8) part D.begins (IB 8) DE (IE 8) s.Item the_function after_head M.others p j refl (omega arith) refl (λ _. refl) M.are_others in
       let C = complete_node body d top w levels room 8 deeper (spelled 8) part D.begins (IB 8) DE (IE 8) s.Item the_function o (record { trees = specs.tree ∷ (M.first ∷ []); height = max specs.height G.height }) after_head M.others p j tt (omega (arith, low, G.low)) P in
       same_got top w (forests.node the_function (spanned o j.place) (specs.tree ∷ others)) (forests.node the_function (spanned o j.place) (specs.tree ∷ (M.first ∷ M.others))) j _ _ (at_outer o specs x k p true G.reads is) (ap (λ ts. forests.node the_function (spanned o j.place) (specs.tree ∷ ts)) M.value) C
@@ -176,8 +167,8 @@ module _ (d top : ℕ) (w : List Shape) (levels : Type 0) (room : Room levels d 
   declarators_read o specs vs ts k m j low flag C M =
       let semicolon : On (class_number (sign punct.Semicolon) ∷ []) w m.place = on_here (class_number (sign punct.Semicolon) ∷ []) w m (single (class_number (sign punct.Semicolon)) (class_at w m) M.0) in
       let H : Others body d top w s.InitDeclarator 0 (spelled 7 s.InitDeclarator 0) (part s.InitDeclarator 0) (sort_begins 7 s.InitDeclarator 0 refl refl) (sort_read 7 s.InitDeclarator 0 refl (omega arith)) (Spliced (Some comma) 0) vs k m =
-          others_read body d top w s.InitDeclarator 0 (spelled 7 s.InitDeclarator 0) (part s.InitDeclarator 0) (sort_begins 7 s.InitDeclarator 0 refl refl) (sort_read 7 s.InitDeclarator 0 refl (omega arith)) (Spliced (Some comma) 0) (λ c h. h) refl vs k m C
-          (off (class_number (sign punct.Semicolon) ∷ []) (goes_on s.InitDeclarator 0) w m.place refl semicolon) (off (class_number (sign punct.Semicolon) ∷ []) (class_number comma ∷ []) w m.place refl semicolon m.state) in
+      others_read body d top w s.InitDeclarator 0 (spelled 7 s.InitDeclarator 0) (part s.InitDeclarator 0) (sort_begins 7 s.InitDeclarator 0 refl refl) (sort_read 7 s.InitDeclarator 0 refl (omega arith)) (Spliced (Some comma) 0) (λ c h. h) refl vs k m C
+      (off (class_number (sign punct.Semicolon) ∷ []) (goes_on s.InitDeclarator 0) w m.place refl semicolon) (off (class_number (sign punct.Semicolon) ∷ []) (class_number comma ∷ []) w m.place refl semicolon m.state) in
       let q : Spot = H.place in
       let N = init_node H.tree k q H.is_first in
       let form_is = init_declarator_form H.tree.form N.may in
@@ -206,7 +197,7 @@ module _ (d top : ℕ) (w : List Shape) (levels : Type 0) (room : Room levels d 
       let R = H.reads (max 0 I.height) (omega (arith, I.low)) in
       let E = decl_end o specs (list_from k.place (listed vs R.height m.place false)) ts m j low R.low M in
       same_got top w _ _ j _ _
-        (at_outer o specs x k p false G.reads no_function
-        ∙ ap (λ o'. and_then o' (λ x j. and_then (read body d (others (Spliced (Some comma) 0) s.InitDeclarator (part s.InitDeclarator 0) (with_last (none_at k.place) x j.at.place)) j) (λ g j. read body d (declaration_of part o specs (list_from k.place g)) j)))
-            (I.reads ∙ ap (λ t. Ok (record { tree = t; height = I.height }, from w q)) tree)
-        ∙ ap (λ o'. and_then o' (λ g j. read body d (declaration_of part o specs (list_from k.place g)) j)) R.reads) refl E
+      (at_outer o specs x k p false G.reads no_function
+      ∙ ap (λ o'. and_then o' (λ x j. and_then (read body d (others (Spliced (Some comma) 0) s.InitDeclarator (part s.InitDeclarator 0) (with_last (none_at k.place) x j.at.place)) j) (λ g j. read body d (declaration_of part o specs (list_from k.place g)) j)))
+      (I.reads ∙ ap (λ t. Ok (record { tree = t; height = I.height }, from w q)) tree)
+      ∙ ap (λ o'. and_then o' (λ g j. read body d (declaration_of part o specs (list_from k.place g)) j)) R.reads) refl E

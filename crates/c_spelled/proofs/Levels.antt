@@ -1,7 +1,6 @@
 -- What may go on after a tree of a level.
-use Rattle.std.proofs.Common.{◌≡◌, ◌⊎◌, inl, inr, refl, subst, ap, sym, ◌∙◌, ℕ, zero, suc, ◌+◌, ◌<◌, ◌≤◌, not, nat_lt, nat_eq, Bool, true, false, ◌||◌, ◌&&◌, List, [], ◌∷◌, ◌++◌, Option, Some, None, arith}
-use Rattle.std.proofs.lemmas.Bool.{lt-ltb}
-use borrow.Author.Tests.{ltb-true, ltb-false, le-ltb}
+use Rattle.std.proofs.Common.{◌≡◌, ◌⊎◌, inl, inr, refl, subst, ap, sym, ◌∙◌, ℕ, ◌≤◌, not, nat_lt, nat_eq, Bool, true, false, ◌||◌, List, [], ◌∷◌, ◌++◌, Option, Some, None, arith}
+use borrow.Author.Tests.{ltb-false, le-ltb}
 use Rattle.c_tokens.specs.declared.token.Punct.{Punct}
 use Rattle.c_tokens.specs.declared.token.Punct.TheVariants as punct
 use Rattle.c_tokens.specs.declared.token.Shape.{Shape}
@@ -11,17 +10,15 @@ use Rattle.c_tokens.specs.ClassNumbers.{class_number, punct_number}
 use Rattle.c_forms.specs.declared.pieces.Sort.{Sort}
 use Rattle.c_forms.specs.declared.pieces.Sort.TheVariants as s
 use Rattle.c_forms.specs.declared.forms.Form.{Form}
-use Rattle.c_forms.specs.Measures.{level, pieces}
+use Rattle.c_forms.specs.Measures.{level}
 use Rattle.c_forms.specs.Tokens.{continued}
 use Rattle.c_forms.specs.Sets.{Classes, has, given, goes_on, all_puncts}
-use Rattle.c_reader.specs.States.{State, class as class_in}
-use Rattle.c_reader.specs.Tokens.{Spot, raw_at, class_at}
-use Rattle.c_reader.proofs.Sets.{both, either, not_true, contrary, itself, same_class, single, only_single, has_left, has_right, has_either, has_none, given_true}
-use Rattle.c_syntax.specs.Grammar.{left_level, continued_by}
-use Rattle.c_syntax.specs.Spells.{Is}
+use Rattle.c_reader.specs.States.{class as class_in}
+use Rattle.c_reader.specs.Tokens.{Spot, raw_at}
+use Rattle.c_reader.proofs.Sets.{either, not_true, same_class, single, only_single, has_left, has_right, has_either, given_true}
 use Rattle.c_spelled.specs.Fitting.{is_leveled, is_tight, tails, is_apt, is_unapt, loose, unapt, prefix}
 use Rattle.c_spelled.proofs.Off.{Off, off_left, off_right, off_both}
-use Rattle.c_spelled.proofs.Shapes.{is_punct, same_punct}
+use Rattle.c_spelled.proofs.Shapes.{same_punct}
 
 -- ---- tests of levels
 
@@ -44,7 +41,6 @@ or_apt true b h = absurd (cc h)
 or_apt false b h = refl
 
 -- ---- sets
-
 
 -- the set of those that are tight has less where the level is more
 tighter : (due : Sort) (least l : ℕ) (ps : List Punct) (c : ℕ) → least ≤ l → has (tails due l ps) c ≡ true → has (tails due least ps) c ≡ true

@@ -1,5 +1,5 @@
 -- What spells a node by its row is read, and so is a word or a literal.
-use Rattle.std.proofs.Common.{◌≡◌, ◌⊎◌, inl, inr, refl, subst, ap, sym, ◌∙◌, ℕ, zero, suc, ◌+◌, ◌<◌, ◌≤◌, max, not, nat_lt, Bool, true, false, ◌||◌, ◌&&◌, List, length, [], ◌∷◌, ◌++◌, nat_eq, if◌then◌else◌, Option, Some, None, Ok, Err, arith}
+use Rattle.std.proofs.Common.{◌≡◌, refl, subst, ap, sym, ◌∙◌, ℕ, ◌+◌, ◌<◌, ◌≤◌, max, not, nat_lt, Bool, true, false, ◌||◌, ◌&&◌, List, [], ◌++◌, nat_eq, if◌then◌else◌, Option, Some, None, Ok, arith}
 use Rattle.std.proofs.lemmas.Bool.{lt-ltb}
 use borrow.Author.Tests.{ltb-true}
 use Rattle.c_tokens.specs.declared.token.Word.{Word}
@@ -14,21 +14,21 @@ use Rattle.c_forms.specs.declared.forms.Form.TheVariants as form
 use Rattle.c_forms.specs.Forests.{Plain}
 use Rattle.c_forms.specs.Forests as forests
 use Rattle.c_forms.specs.Measures.{pieces}
-use Rattle.c_forms.specs.Sets.{Classes, has, within, goes_on, type_word}
-use Rattle.c_reader.specs.States.{State, Seen, seen, is_type, word_class, happens, noted}
-use Rattle.c_reader.specs.Tokens.{Spot, spot, step, turned, raw_at, seen_at, class_at}
+use Rattle.c_forms.specs.Sets.{Classes, within, goes_on}
+use Rattle.c_reader.specs.States.{seen, is_type, word_class, happens, noted}
+use Rattle.c_reader.specs.Tokens.{Spot, step, turned, raw_at, seen_at}
 use Rattle.c_reader.specs.Readers.{Input, Reader, Found, Outcome, Body, read, and_then, pick, when}
 use Rattle.c_reader.proofs.Local.{from}
-use Rattle.c_reader.proofs.Sets.{both, not_true, itself, within_lacks}
+use Rattle.c_reader.proofs.Sets.{both, within_lacks}
 use Rattle.c_syntax.specs.Allowed.{places}
-use Rattle.c_syntax.specs.Reading.{Listed, Parts, nothing, node, joined, height_over, called, parts_by, parts_of, is_starred, spanned, Before, Usual, is_absent, pieces_in, completed}
+use Rattle.c_syntax.specs.Reading.{Listed, Parts, nothing, node, joined, height_over, called, parts_by, parts_of, is_starred, spanned, Usual, pieces_in, completed}
 use Rattle.c_syntax.specs.Grammar.{charged, whole, leaf_if, is_word, is_value, identifier, declared_identifier, parameter_identifier, enumerator_identifier, literal}
-use Rattle.c_syntax.specs.Spells.{Spelling, Is, Matches, parts_spelled, Levels, IsNode, may_be, AnyWord, ValueWord, IsLiteral, after_name}
-use Rattle.c_spelled.specs.Fitting.{is_read, reads, follows, fitting, is_leveled, is_typed_list, need, needs, bound, needs_so, begins_so, fits_so, row_fits, keeps, is_balanced}
+use Rattle.c_syntax.specs.Spells.{Spelling, Matches, parts_spelled, Levels, IsNode, may_be, AnyWord, ValueWord, IsLiteral, after_name}
+use Rattle.c_spelled.specs.Fitting.{reads, follows, fitting, is_leveled, is_typed_list, need, needs, bound, needs_so, begins_so, fits_so, keeps, is_balanced}
 use Rattle.c_spelled.proofs.Off.{Off}
-use Rattle.c_spelled.proofs.Begins.{AllBegin, choose_begin, row, Row}
+use Rattle.c_spelled.proofs.Begins.{AllBegin, choose_begin, row}
 use Rattle.c_spelled.proofs.Groups.{Got}
-use Rattle.c_spelled.proofs.Pieces.{AllRead, GotParts, side_by_side, pieces_read}
+use Rattle.c_spelled.proofs.Pieces.{AllRead, GotParts, pieces_read}
 use Rattle.c_spelled.proofs.Rows.{has_row, rows}
 
 pub off_within : (a b : Classes) (w : List Shape) (place : ℕ) → within a b ≡ true → Off b w place → Off a w place

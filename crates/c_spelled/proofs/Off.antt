@@ -1,5 +1,5 @@
 -- Tokens that are not of a set of classes in any state, and tokens that are in some.
-use Rattle.std.proofs.Common.{◌≡◌, ◌⊎◌, inl, inr, refl, subst, ap, sym, ◌∙◌, ℕ, ◌<◌, ◌≤◌, not, Bool, true, false, ◌||◌, ◌&&◌, List, length, [], ◌∷◌, ◌++◌, nat_eq, arith}
+use Rattle.std.proofs.Common.{◌≡◌, ◌⊎◌, inl, inr, refl, ap, sym, ◌∙◌, ℕ, ◌<◌, not, Bool, true, false, ◌||◌, List, length, ◌++◌}
 use Rattle.std.proofs.lemmas.Bool.{cases_lt, or_left, or_right}
 use Rattle.std.proofs.lemmas.List.{get_or_past}
 use Rattle.c_tokens.specs.declared.token.Shape.{Shape}
@@ -7,7 +7,7 @@ use Rattle.c_tokens.specs.declared.token.Shape.TheVariants as shape
 use Rattle.c_forms.specs.Sets.{Classes, has, apart, given, type_word}
 use Rattle.c_reader.specs.States.{State, class}
 use Rattle.c_reader.specs.Tokens.{Spot, raw_at, class_at}
-use Rattle.c_reader.proofs.Sets.{both, not_true, contrary, apart_has, has_neither, has_none, single}
+use Rattle.c_reader.proofs.Sets.{both, contrary, apart_has, has_neither, has_none}
 use Rattle.c_reader.proofs.Seen.{between_states, alike, written, word}
 use Rattle.c_spelled.specs.Fitting.{parted, has_words, value_word, source_end}
 

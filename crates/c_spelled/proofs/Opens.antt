@@ -1,6 +1,6 @@
 -- What spells the pieces of a row begins with a class of those that open it, or has no token.
-use Rattle.std.proofs.Common.{◌≡◌, ◌⊎◌, inl, inr, refl, subst, ap, sym, ◌∙◌, ℕ, zero, suc, ◌+◌, ◌<◌, ◌≤◌, not, Bool, true, false, ◌||◌, ◌&&◌, List, [], ◌∷◌, ◌++◌, nat_eq, Option, Some, None, arith}
-use Rattle.std.proofs.lemmas.Bool.{or_left, or_right, and_from}
+use Rattle.std.proofs.Common.{◌≡◌, ◌⊎◌, inl, inr, refl, subst, ap, sym, ◌∙◌, ℕ, zero, suc, ◌<◌, ◌≤◌, not, Bool, true, false, ◌||◌, ◌&&◌, List, [], ◌∷◌, ◌++◌, nat_eq, Option, Some, None, arith}
+use Rattle.std.proofs.lemmas.Bool.{and_from}
 use Rattle.c_tokens.specs.declared.token.Shape.{Shape}
 use Rattle.c_tokens.specs.declared.class.Class.{Class}
 use Rattle.c_tokens.specs.ClassNumbers.{class_number}
@@ -10,14 +10,14 @@ use Rattle.c_forms.specs.declared.pieces.Repetition.TheVariants.{Optional, Greed
 use Rattle.c_forms.specs.declared.pieces.Piece.{Piece}
 use Rattle.c_forms.specs.declared.pieces.Piece.TheVariants.{Token, Maybe, Own, TypeTokens, KindName, One, Group, Rest, Anything, Then}
 use Rattle.c_forms.specs.declared.forms.Form.{Form}
-use Rattle.c_forms.specs.Forests.{Plain, Forest, empty, tree, forest}
-use Rattle.c_forms.specs.Sets.{Classes, has, given, starts, may_be_empty, is_optional, held_class}
+use Rattle.c_forms.specs.Forests.{Plain, forest}
+use Rattle.c_forms.specs.Sets.{Classes, has, given, starts, may_be_empty, is_optional}
 use Rattle.c_forms.specs.Rules.{is_none}
 use Rattle.c_reader.specs.States.{State, class, happens}
 use Rattle.c_reader.specs.Tokens.{Spot, step, turned, raw_at, class_at}
-use Rattle.c_syntax.specs.Reading.{Before, Usual, Missing, Taken, before_by, is_missing, is_absent, inside}
-use Rattle.c_syntax.specs.Spells.{Spelling, Is, Separated, Longer, Chain, Elements, Absent, Once, AnyNumber, IsGroup, IsHeld, Parted, IsList, Matches}
-use Rattle.c_reader.proofs.Sets.{both, not_true, contrary, itself, single, has_left, has_right}
+use Rattle.c_syntax.specs.Reading.{Before, Usual, before_by, is_absent, inside}
+use Rattle.c_syntax.specs.Spells.{Spelling, Separated, Chain, Once, IsGroup, Matches}
+use Rattle.c_reader.proofs.Sets.{both, single, has_left, has_right}
 use Rattle.c_spelled.specs.Fitting.{is_read, is_nameless, opens, is_due_after, blank, is_calm, reads}
 
 -- a tree begins with a class of its sort, or has no token

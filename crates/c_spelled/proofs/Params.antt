@@ -1,57 +1,36 @@
 -- What spells the parameters of a declarator is read (ISO/IEC 9899:1990, 6.5.4.3).
-use Rattle.std.proofs.Common.{◌≡◌, ◌⊎◌, inl, inr, refl, subst, ap, sym, ◌∙◌, ℕ, zero, suc, ◌+◌, ◌<◌, ◌≤◌, max, not, Bool, true, false, ◌||◌, ◌&&◌, List, [], ◌∷◌, ◌++◌, nat_eq, Option, Some, None, Ok, Err, arith}
-use Rattle.c_tokens.specs.declared.token.Word.{Word}
-use Rattle.c_tokens.specs.declared.token.Key.{Key}
-use Rattle.c_tokens.specs.declared.token.Key.TheVariants as key
+use Rattle.std.proofs.Common.{◌≡◌, inl, inr, refl, subst, ap, sym, ◌∙◌, ℕ, zero, suc, ◌+◌, ◌≤◌, not, Bool, true, false, ◌||◌, ◌&&◌, List, [], ◌∷◌, ◌++◌, nat_eq, Option, Some, Ok, arith}
 use Rattle.c_tokens.specs.declared.token.Punct.TheVariants as punct
 use Rattle.c_tokens.specs.declared.token.Shape.{Shape}
-use Rattle.c_tokens.specs.declared.token.Shape.TheVariants as shape
 use Rattle.c_tokens.specs.declared.class.Class.{Class}
 use Rattle.c_tokens.specs.declared.class.Class.TheVariants as class
 use Rattle.c_tokens.specs.ClassNumbers.{class_number}
-use Rattle.c_forms.specs.declared.operators.StorageClass.TheVariants as storage
-use Rattle.c_forms.specs.declared.operators.TypeQualifier.TheVariants as qualifier
-use Rattle.c_forms.specs.declared.operators.BasicType.TheVariants as basic
-use Rattle.c_forms.specs.declared.operators.StructOrUnion.TheVariants as group_of
-use Rattle.c_forms.specs.declared.pieces.Sort.{Sort}
 use Rattle.c_forms.specs.declared.pieces.Sort.TheVariants as s
-use Rattle.c_forms.specs.declared.pieces.Repetition.TheVariants.{Many, Ended}
+use Rattle.c_forms.specs.declared.pieces.Repetition.TheVariants.{Ended}
 use Rattle.c_forms.specs.declared.forms.Form.{Form}
 use Rattle.c_forms.specs.declared.forms.Form.TheVariants as form
-use Rattle.c_forms.specs.declared.forms.SpecForm.{SpecForm}
-use Rattle.c_forms.specs.declared.forms.SpecForm.TheVariants as spec
-use Rattle.c_forms.specs.declared.forms.InitForm.TheVariants as init
-use Rattle.c_forms.specs.declared.forms.ExpForm.TheVariants as exp
-use Rattle.c_forms.specs.declared.forms.ItemForm.TheVariants as item
-use Rattle.c_forms.specs.declared.forms.TemplateForm.TheVariants as template
-use Rattle.c_forms.specs.declared.forms.GroupForm.TheVariants as group
 use Rattle.c_forms.specs.declared.forms.ParamsForm.TheVariants as params
-use Rattle.c_forms.specs.declared.forms.StmtForm.TheVariants as stmt
 use Rattle.c_forms.specs.Forests.{Plain, forest}
 use Rattle.c_forms.specs.Forests as forests
-use Rattle.c_forms.specs.Measures.{pieces}
 use Rattle.c_forms.specs.Rules.{is_none, in_first}
-use Rattle.c_forms.specs.Tokens.{map_option, begun, spec_of_shape}
-use Rattle.c_forms.specs.Sets.{Classes, has, starts, goes_on, may_be_empty, type_word}
-use Rattle.c_reader.specs.States.{State, Seen, seen, class as class_in}
-use Rattle.c_reader.specs.Tokens.{Spot, spot, step, turned, raw_at, seen_at, class_at}
-use Rattle.c_reader.specs.Readers.{Input, Reader, Found, Outcome, Body, Refuse, Give, Ask, read, and_then, pick, only, choose, token, ◌>>=◌, ◌>>◌}
+use Rattle.c_forms.specs.Sets.{has, starts, goes_on}
+use Rattle.c_reader.specs.Tokens.{Spot, step, raw_at, seen_at, class_at}
+use Rattle.c_reader.specs.Readers.{Reader, Found, Outcome, Body, Refuse, Give, Ask, read, and_then, pick, only, choose, token, ◌>>◌}
 use Rattle.c_reader.proofs.Local.{from}
-use Rattle.c_reader.proofs.Sets.{both, either, not_true, contrary, itself, single, only_single, has_left, has_right, apart_has}
-use Rattle.c_syntax.specs.Allowed.{may_stand, has_name, places}
-use Rattle.c_syntax.specs.Reading.{Listed, Parts, Gathered, nothing, one, node, called, is_starred, spanned, the_list, list_from, Usual, is_class, gathered, gathered_by, many}
-use Rattle.c_syntax.specs.Grammar.{sign, is_sign, is_value, is_type_word, begins, whole, spec_of, specifier_by, specifier, typed, parameters, initializer, block}
-use Rattle.c_syntax.specs.Spells.{Spelling, Is, IsGroup, Matches, Levels, parts_spelled, IsNode, may_be, may_list, Chain}
-use Rattle.c_spelled.specs.Fitting.{parted, is_read, opens, follows, fitting, reads, is_leveled, is_typed_list, need, between_set}
+use Rattle.c_reader.proofs.Sets.{either, contrary, single, apart_has}
+use Rattle.c_syntax.specs.Allowed.{has_name, places}
+use Rattle.c_syntax.specs.Reading.{Parts, Gathered, one, node, called, spanned, the_list, list_from, Usual, is_class, gathered, gathered_by, many}
+use Rattle.c_syntax.specs.Grammar.{sign, is_value, begins, whole, typed, parameters}
+use Rattle.c_syntax.specs.Spells.{Spelling, Is, IsNode, may_list, Chain}
+use Rattle.c_spelled.specs.Fitting.{need}
 use Rattle.c_spelled.proofs.Off.{Off, on_here, off}
-use Rattle.c_spelled.proofs.Opens.{Begun, chain_begins}
-use Rattle.c_spelled.proofs.Begins.{AllBegin, node_begins}
+use Rattle.c_spelled.proofs.Opens.{chain_begins}
+use Rattle.c_spelled.proofs.Begins.{AllBegin}
 use Rattle.c_spelled.proofs.Groups.{Got, GotAll, listed, ended_read}
 use Rattle.c_spelled.proofs.Pieces.{AllRead, is_it, is_not}
-use Rattle.c_spelled.proofs.Rows.{has_row}
-use Rattle.c_spelled.proofs.Shapes.{is_key, no_hole}
-use Rattle.c_spelled.proofs.Alone.{is_spec, spec_is, plain_spec_is, qualifier_is, init_is, params_is, block_form}
-use Rattle.c_spelled.proofs.Nodes.{Room, Fits, fits_of, off_within, same_got, node_read, whole_read, Parts_match}
+use Rattle.c_spelled.proofs.Shapes.{no_hole}
+use Rattle.c_spelled.proofs.Alone.{params_is}
+use Rattle.c_spelled.proofs.Nodes.{Room, fits_of, off_within, same_got}
 use Rattle.c_spelled.proofs.Parts.{NodeAs, node_as, as_read}
 
 abbrev is_ids_form : Form → Bool
@@ -103,13 +82,13 @@ module _ (body : Body) (d top : ℕ) (w : List Shape) (levels : Type 0) (room : 
         | inl X ↦ let same : i ≡ j = X.1.1 ∙ M.are_others.1 in
             let out : Off (goes_on s.Params 0) w i.place = subst (λ (k : Spot). Off (goes_on s.Params 0) w k.place) (sym same) o in
             same_got top w t t j _ _ (untyped i (off_within (starts s.Spec) (goes_on s.Params 0) w i.place refl out i.state)
-                (no_value (is_value (seen_at w i)) (has_name i.state) (is_not w class.Word i (off_within (class_number class.Word ∷ []) (goes_on s.Params 0) w i.place refl out)))) refl G
-        | inr C ↦ let b = chain_begins w s.ParameterId (inner s.ParameterId 0) (λ t i j p. elim (IB s.ParameterId 0 t i j refl p) [ | inl b ↦ b | inr x ↦ absurd (cc x.0) ]) (Some (sign punct.Comma)) C.0 us i M.place C.1 in
+            (no_value (is_value (seen_at w i)) (has_name i.state) (is_not w class.Word i (off_within (class_number class.Word ∷ []) (goes_on s.Params 0) w i.place refl out)))) refl G
+        | inr C ↦ let b = chain_begins w s.ParameterId (inner s.ParameterId 0) (λ t i j p. elim (IB s.ParameterId 0 t i j refl p) [ inl b ↦ b | inr x ↦ absurd (cc x.0) ]) (Some (sign punct.Comma)) C.0 us i M.place C.1 in
             let some : is_none (in_first t.parts) ≡ false = ap (λ (t : Plain). is_none (in_first t.parts)) A.value ∙ ap (λ ps. is_none (in_first (forest ps))) M.value ∙ ap (λ (t : Plain). is_none t.parts) M.is_first.1.0
-                ∙ chain_some (inner s.ParameterId 0) w (Some (sign punct.Comma)) C.0 us i M.place C.1 in
+            ∙ chain_some (inner s.ParameterId 0) w (Some (sign punct.Comma)) C.0 us i M.place C.1 in
             let listed : (has_name i.state || (false || is_none (in_first t.parts))) ≡ true = ap (λ f. has_name i.state || (not (is_ids_form f) || is_none (in_first t.parts))) (sym e) ∙ L in
             same_got top w t t j _ _ (untyped i (apart_has (starts s.ParameterId) (starts s.Spec) (class_at w i) refl b.0)
-                (no_refusal (is_value (seen_at w i)) (has_name i.state) (named_then (has_name i.state) (is_none (in_first t.parts)) some listed))) refl G
+            (no_refusal (is_value (seen_at w i)) (has_name i.state) (named_then (has_name i.state) (is_none (in_first t.parts)) some listed))) refl G
       ]
 
   -- ---- parameter type lists
@@ -123,11 +102,11 @@ module _ (body : Body) (d top : ℕ) (w : List Shape) (levels : Type 0) (room : 
       → (is_class (sign punct.Comma) (seen_at w k) ≡ false → GotAll (read body d (gathered_by (Ended (sign punct.Comma) (sign punct.Ellipsis)) s.Param (part s.Param 0) Usual i.place) (from w i)) top us false k.place w k)
       × (Is w (sign punct.Comma) k → Is w (sign punct.Ellipsis) (step k) → GotAll (read body d (gathered_by (Ended (sign punct.Comma) (sign punct.Ellipsis)) s.Param (part s.Param 0) Usual i.place) (from w i)) top us true k.place w (step k))
   unfolding many
-  the_elements us i k n C o = ended_read body d top w s.Param 0 (inner s.Param 0) (part s.Param 0) (λ t i j p. elim (IB s.Param 0 t i j refl p) [ | inl b ↦ b | inr x ↦ absurd (cc x.0) ]) (λ t i j p o. IE s.Param 0 t i j refl (omega (arith, low)) p o)
+  the_elements us i k n C o = ended_read body d top w s.Param 0 (inner s.Param 0) (part s.Param 0) (λ t i j p. elim (IB s.Param 0 t i j refl p) [ inl b ↦ b | inr x ↦ absurd (cc x.0) ]) (λ t i j p o. IE s.Param 0 t i j refl (omega (arith, low)) p o)
       (sign punct.Comma) (sign punct.Ellipsis) refl refl us i.place i k (n, C) o
 
   begins_spec : (us : List Plain) (i k : Spot) (n : ℕ) → Chain (inner s.Param 0) w (Some (sign punct.Comma)) n us i k → has (starts s.Spec) (class_at w i) ≡ true
-  begins_spec us i k n C = let b = chain_begins w s.Param (inner s.Param 0) (λ t i j p. elim (IB s.Param 0 t i j refl p) [ | inl b ↦ b | inr x ↦ absurd (cc x.0) ]) (Some (sign punct.Comma)) n us i k C in
+  begins_spec us i k n C = let b = chain_begins w s.Param (inner s.Param 0) (λ t i j p. elim (IB s.Param 0 t i j refl p) [ inl b ↦ b | inr x ↦ absurd (cc x.0) ]) (Some (sign punct.Comma)) n us i k C in
       elim (either (nat_eq 126 (class_at w i)) (has (starts s.Spec) (class_at w i)) b.0) [
         | inl h ↦ absurd (contrary (nat_eq 126 (class_at w i)) h (no_hole i.state (raw_at w i.place)))
         | inr h ↦ h
@@ -149,8 +128,8 @@ module _ (body : Body) (d top : ℕ) (w : List Shape) (levels : Type 0) (room : 
       let out : Off (goes_on s.Params 0) w M.place.place = subst (λ (k : Spot). Off (goes_on s.Params 0) w k.place) (sym M.are_others.1) o in
       let G = (the_elements us i M.place C.0 C.1 (off_within (goes_on s.Param 0) (goes_on s.Params 0) w M.place.place refl out)).0 (is_not w (sign punct.Comma) M.place (off_within (class_number (sign punct.Comma) ∷ []) (goes_on s.Params 0) w M.place.place refl out)) in
       let made : forests.node (form.Params params.Typed) (spanned i.place M.place.place) (forests.node the_list (spanned i.place M.place.place) us ∷ []) ≡ t =
-          ap (λ (k : Spot). forests.node (form.Params params.Typed) (spanned i.place k.place) (forests.node the_list (spanned i.place M.place.place) us ∷ [])) M.are_others.1
-          ∙ ap (λ ps. forests.node (form.Params params.Typed) (spanned i.place j.place) ps) (ap (λ t. t ∷ []) (sym M.is_first.1.0) ∙ ap (λ ts. M.first ∷ ts) (sym M.are_others.0) ∙ sym M.value) ∙ sym A.value in
+      ap (λ (k : Spot). forests.node (form.Params params.Typed) (spanned i.place k.place) (forests.node the_list (spanned i.place M.place.place) us ∷ [])) M.are_others.1
+      ∙ ap (λ ps. forests.node (form.Params params.Typed) (spanned i.place j.place) ps) (ap (λ t. t ∷ []) (sym M.is_first.1.0) ∙ ap (λ ts. M.first ∷ ts) (sym M.are_others.0) ∙ sym M.value) ∙ sym A.value in
       record {
         height = G.height;
         low = G.low;
@@ -174,8 +153,8 @@ module _ (body : Body) (d top : ℕ) (w : List Shape) (levels : Type 0) (room : 
       let out : Off (goes_on s.Param 0) w k.place = off (class_number (sign punct.Comma) ∷ []) (goes_on s.Param 0) w k.place refl (on_here (class_number (sign punct.Comma) ∷ []) w k (single (class_number (sign punct.Comma)) (class_at w k) comma)) in
       let G = (the_elements us i k C.0 C.1 out).1 comma M.are_others.1.0 in
       let made : forests.node (form.Params params.TypedAndMore) (spanned i.place ((step k).place + 1)) (forests.node the_list (spanned i.place k.place) us ∷ []) ≡ t =
-          ap (λ (k' : Spot). forests.node (form.Params params.TypedAndMore) (spanned i.place k'.place) (forests.node the_list (spanned i.place k.place) us ∷ [])) last
-          ∙ ap (λ ps. forests.node (form.Params params.TypedAndMore) (spanned i.place j.place) ps) (ap (λ t. t ∷ []) (sym M.is_first.1.0) ∙ ap (λ ts. M.first ∷ ts) (sym M.are_others.1.1.0) ∙ sym M.value) ∙ sym A.value in
+      ap (λ (k' : Spot). forests.node (form.Params params.TypedAndMore) (spanned i.place k'.place) (forests.node the_list (spanned i.place k.place) us ∷ [])) last
+      ∙ ap (λ ps. forests.node (form.Params params.TypedAndMore) (spanned i.place j.place) ps) (ap (λ t. t ∷ []) (sym M.is_first.1.0) ∙ ap (λ ts. M.first ∷ ts) (sym M.are_others.1.1.0) ∙ sym M.value) ∙ sym A.value in
       record {
         height = G.height;
         low = G.low;

@@ -1,12 +1,11 @@
 -- What spells specifiers, initializers, parameters and blocks is read.
-use Rattle.std.proofs.Common.{◌≡◌, ◌⊎◌, inl, inr, refl, subst, ap, sym, ◌∙◌, ℕ, zero, suc, ◌+◌, ◌<◌, ◌≤◌, max, not, Bool, true, false, ◌||◌, ◌&&◌, List, [], ◌∷◌, ◌++◌, nat_eq, Option, Some, None, Ok, Err, arith}
+use Rattle.std.proofs.Common.{◌≡◌, inl, inr, refl, subst, ap, sym, ◌∙◌, ℕ, ◌+◌, ◌≤◌, Bool, true, false, List, [], ◌∷◌, nat_eq, Option, Some, None}
 use Rattle.c_tokens.specs.declared.token.Word.{Word}
 use Rattle.c_tokens.specs.declared.token.Key.{Key}
 use Rattle.c_tokens.specs.declared.token.Key.TheVariants as key
 use Rattle.c_tokens.specs.declared.token.Punct.TheVariants as punct
 use Rattle.c_tokens.specs.declared.token.Shape.{Shape}
 use Rattle.c_tokens.specs.declared.token.Shape.TheVariants as shape
-use Rattle.c_tokens.specs.declared.class.Class.{Class}
 use Rattle.c_tokens.specs.declared.class.Class.TheVariants as class
 use Rattle.c_tokens.specs.ClassNumbers.{class_number}
 use Rattle.c_forms.specs.declared.operators.StorageClass.TheVariants as storage
@@ -15,7 +14,6 @@ use Rattle.c_forms.specs.declared.operators.BasicType.TheVariants as basic
 use Rattle.c_forms.specs.declared.operators.StructOrUnion.TheVariants as group_of
 use Rattle.c_forms.specs.declared.pieces.Sort.{Sort}
 use Rattle.c_forms.specs.declared.pieces.Sort.TheVariants as s
-use Rattle.c_forms.specs.declared.pieces.Repetition.TheVariants.{Many, Ended}
 use Rattle.c_forms.specs.declared.forms.Form.{Form}
 use Rattle.c_forms.specs.declared.forms.Form.TheVariants as form
 use Rattle.c_forms.specs.declared.forms.SpecForm.{SpecForm}
@@ -25,33 +23,30 @@ use Rattle.c_forms.specs.declared.forms.ExpForm.TheVariants as exp
 use Rattle.c_forms.specs.declared.forms.ItemForm.TheVariants as item
 use Rattle.c_forms.specs.declared.forms.TemplateForm.TheVariants as template
 use Rattle.c_forms.specs.declared.forms.GroupForm.TheVariants as group
-use Rattle.c_forms.specs.declared.forms.ParamsForm.TheVariants as params
 use Rattle.c_forms.specs.declared.forms.StmtForm.TheVariants as stmt
 use Rattle.c_forms.specs.Forests.{Plain, forest}
 use Rattle.c_forms.specs.Forests as forests
 use Rattle.c_forms.specs.Measures.{pieces}
-use Rattle.c_forms.specs.Rules.{is_none, in_first}
 use Rattle.c_forms.specs.Tokens.{map_option, begun, spec_of_shape}
-use Rattle.c_forms.specs.Sets.{Classes, has, starts, goes_on, may_be_empty, type_word}
-use Rattle.c_reader.specs.States.{State, Seen, seen, class as class_in}
-use Rattle.c_reader.specs.Tokens.{Spot, spot, step, turned, raw_at, seen_at, class_at}
-use Rattle.c_reader.specs.Readers.{Input, Reader, Found, Outcome, Body, Refuse, Give, Ask, read, and_then, choose, token, ◌>>=◌, ◌>>◌}
+use Rattle.c_forms.specs.Sets.{starts, goes_on, may_be_empty, type_word}
+use Rattle.c_reader.specs.States.{State, seen}
+use Rattle.c_reader.specs.Tokens.{Spot, raw_at, seen_at, class_at}
+use Rattle.c_reader.specs.Readers.{Reader, Found, Body, Refuse, read, choose}
 use Rattle.c_reader.proofs.Local.{from}
-use Rattle.c_reader.proofs.Sets.{both, either, not_true, contrary, itself, single, only_single, has_left, has_right}
-use Rattle.c_syntax.specs.Allowed.{may_stand, has_name, places}
-use Rattle.c_syntax.specs.Reading.{Listed, Parts, Gathered, nothing, one, node, called, is_starred, spanned, the_list, list_from, Usual, is_class, gathered, gathered_by, many}
-use Rattle.c_syntax.specs.Grammar.{sign, is_sign, is_value, is_type_word, begins, whole, spec_of, specifier_by, specifier, typed, parameters, initializer, block}
-use Rattle.c_syntax.specs.Spells.{Spelling, Is, IsGroup, Matches, Levels, parts_spelled, IsNode, may_be, may_list, Chain}
-use Rattle.c_spelled.specs.Fitting.{parted, is_read, opens, follows, fitting, reads, is_leveled, is_typed_list, need, needs, bound, between_set}
+use Rattle.c_reader.proofs.Sets.{contrary, only_single}
+use Rattle.c_syntax.specs.Allowed.{may_stand, places}
+use Rattle.c_syntax.specs.Reading.{Parts, called, is_starred, spanned, Usual}
+use Rattle.c_syntax.specs.Grammar.{is_sign, is_type_word, begins, whole, spec_of, specifier_by, specifier, initializer, block}
+use Rattle.c_syntax.specs.Spells.{Spelling, Matches, Levels, parts_spelled, IsNode, may_be}
+use Rattle.c_spelled.specs.Fitting.{follows, is_leveled, is_typed_list, need}
 use Rattle.c_spelled.proofs.Off.{Off, on_here, off}
-use Rattle.c_spelled.proofs.Opens.{Begun, chain_begins}
 use Rattle.c_spelled.proofs.Begins.{AllBegin, node_begins}
-use Rattle.c_spelled.proofs.Groups.{Got, GotAll, listed, ended_read}
+use Rattle.c_spelled.proofs.Groups.{Got}
 use Rattle.c_spelled.proofs.Pieces.{AllRead, is_it, is_not}
 use Rattle.c_spelled.proofs.Rows.{has_row}
-use Rattle.c_spelled.proofs.Shapes.{is_key, no_hole}
-use Rattle.c_spelled.proofs.Alone.{is_spec, spec_is, plain_spec_is, qualifier_is, init_is, params_is, block_form}
-use Rattle.c_spelled.proofs.Nodes.{Room, Fits, fits_of, off_within, same_got, node_read, whole_read, Parts_match}
+use Rattle.c_spelled.proofs.Shapes.{is_key}
+use Rattle.c_spelled.proofs.Alone.{is_spec, spec_is, plain_spec_is, qualifier_is, init_is, block_form}
+use Rattle.c_spelled.proofs.Nodes.{Room, Fits, fits_of, off_within, same_got, node_read, whole_read}
 
 -- ---- the token that a specifier begins with decides for it
 
@@ -130,9 +125,9 @@ module _ (body : Body) (d top : ℕ) (w : List Shape) (levels : Type 0) (room : 
       ] in
       let found : spec_of due (is_type_word (seen_at w i)) (seen_at w i) ≡ Some t.form = spec_seen w (parts_spelled (is_starred t.form) deeper inner) due B t.form N.parts i j (only t.form N.may) N.matches in
       same_got top w t t j _ _
-        (choose_at (begins due (seen_at w i)) true (specifier_by part due i.state (spec_of due (is_type_word (seen_at w i)) (seen_at w i))) Refuse i begun_so
-        ∙ ap (λ f. read body d (specifier_by part due i.state f) (from w i)) found ∙ choose_at (may_stand i.state t.form) true (whole part due t.form) Refuse i stands) refl
-        (nodes due least t i j h l (no_list t.form (only t.form N.may)) low N o)
+      (choose_at (begins due (seen_at w i)) true (specifier_by part due i.state (spec_of due (is_type_word (seen_at w i)) (seen_at w i))) Refuse i begun_so
+      ∙ ap (λ f. read body d (specifier_by part due i.state f) (from w i)) found ∙ choose_at (may_stand i.state t.form) true (whole part due t.form) Refuse i stands) refl
+      (nodes due least t i j h l (no_list t.form (only t.form N.may)) low N o)
 
   pub any_spec_read : need s.Spec ≤ n + 1 → (least : ℕ) (t : Plain) (i j : Spot) → may_stand i.state t.form ≡ true → IsNode levels deeper inner w s.Spec least t i j → Off (goes_on s.Spec least) w j.place → Got (read body d (specifier part s.Spec) (from w i)) top t w j
   any_spec_read low = spec_read s.Spec (λ x. refl) spec_is refl refl refl low

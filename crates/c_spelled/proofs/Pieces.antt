@@ -1,5 +1,5 @@
 -- What spells the pieces of a row is read.
-use Rattle.std.proofs.Common.{◌≡◌, ◌⊎◌, inl, inr, refl, subst, ap, sym, ◌∙◌, ℕ, zero, suc, ◌+◌, ◌<◌, ◌≤◌, max, not, Bool, true, false, ◌||◌, ◌&&◌, List, length, [], ◌∷◌, ◌++◌, nat_eq, Option, Some, None, Ok, Err, arith}
+use Rattle.std.proofs.Common.{◌≡◌, inl, inr, refl, subst, ap, sym, ◌∙◌, ℕ, ◌<◌, ◌≤◌, max, not, Bool, true, false, ◌&&◌, List, [], ◌∷◌, ◌++◌, nat_eq, Some, Ok, arith}
 use Rattle.c_tokens.specs.declared.token.Shape.{Shape}
 use Rattle.c_tokens.specs.declared.class.Class.{Class}
 use Rattle.c_tokens.specs.ClassNumbers.{class_number}
@@ -13,18 +13,18 @@ use Rattle.c_forms.specs.Forests.{Plain, forest}
 use Rattle.c_forms.specs.Forests as forests
 use Rattle.c_forms.specs.Rules.{is_none}
 use Rattle.c_forms.specs.Sets.{Classes, has, given, starts, may_be_empty, goes_on, held_class}
-use Rattle.c_reader.specs.States.{Seen, happens}
-use Rattle.c_reader.specs.Tokens.{Spot, spot, step, turned, seen_at, class_at}
-use Rattle.c_reader.specs.Readers.{Input, Reader, Found, Outcome, Body, Give, Refuse, Look, Next, Pick, Bind, Ask, Change, read, and_then, pick, choose, only, token, ◌>>=◌, ◌>>◌}
+use Rattle.c_reader.specs.States.{happens}
+use Rattle.c_reader.specs.Tokens.{Spot, step, turned, seen_at, class_at}
+use Rattle.c_reader.specs.Readers.{Reader, Outcome, Body, Give, Refuse, Next, Change, read, and_then, pick, choose, only, ◌>>=◌}
 use Rattle.std.proofs.lemmas.Bool.{or_left, or_right}
 use Rattle.c_reader.proofs.Local.{from}
 use Rattle.c_reader.proofs.Sets.{both, not_true, itself, single, same_class}
 use Rattle.c_syntax.specs.Allowed.{may_happen}
 use Rattle.c_syntax.specs.Reading.{Listed, Parts, Gathered, nothing, with_first, list_from, the_list, spanned, gathered, gathered_by, many, Before, Usual, before_by, is_absent, inside, is_class, pieces_in}
-use Rattle.c_syntax.specs.Spells.{Spelling, Is, IsGroup, IsHeld, Parted, IsList, Matches}
-use Rattle.c_spelled.specs.Fitting.{parted, is_read, opens, blank, reads, is_due, goes_after, group_goes_on, absent_ends, follows, need, needs, elements_fit, between_fits, group_fits, is_ended_by, fitting}
-use Rattle.c_spelled.proofs.Off.{Off, On, on_here, off, off_left, off_right, off_both, off_given}
-use Rattle.c_spelled.proofs.Opens.{Begun, Starts, Opened, Blank, starts_so}
+use Rattle.c_syntax.specs.Spells.{Spelling, Is, IsGroup, Parted, IsList, Matches}
+use Rattle.c_spelled.specs.Fitting.{parted, is_read, opens, blank, reads, is_due, group_goes_on, absent_ends, follows, need, needs, elements_fit, between_fits, group_fits, is_ended_by, fitting}
+use Rattle.c_spelled.proofs.Off.{Off, on_here, off, off_left, off_right, off_given}
+use Rattle.c_spelled.proofs.Opens.{Starts, starts_so}
 use Rattle.c_spelled.proofs.Begins.{AllBegin}
 use Rattle.c_spelled.proofs.Groups.{Got, GotAll, listed, group_read, ended_read, is_unended}
 
@@ -150,9 +150,9 @@ module _ (body : Body) (d top : ℕ) (w : List Shape) (n : ℕ) (P : Spelling) (
             (off_right all _ w j.place (off_head (blank own Usual ps) (all ++ given (not (is_due ps)) (absent_ends r due)) (follows own ps) w j.place (usually own (before_by (is_none (forest us))) ps b.may) o)))
       ] in
       let G : GotAll (read body d (gathered_by r due (part due least) before i.place) (from w i)) top us false k.place w k =
-          group_read body d top w due least (P due least) (part due least) (element_begins due least r') (element_read due least r' few) r before us i k U fit.0 M.is_first.1.1 out gone in
+      group_read body d top w due least (P due least) (part due least) (element_begins due least r') (element_read due least r' few) r before us i k U fit.0 M.is_first.1.1 out gone in
       in_order own f ps us M.others ts M.first i k j _ q M.is_first.1.0 M.value G.height G.low (in_gathered r due least before i (listed us G.height k.place false) k G.reads) e
-          (rest (before_by (is_none (forest us))) M.others k here)
+      (rest (before_by (is_none (forest us))) M.others k here)
 
   abbrev after_end : Sort → Form → Piece → List Piece → ℕ × Gathered → Reader Listed
   after_end own f p ps g = choose g.1.is_ended (pieces_in part own f Usual ps) (pieces_in part own f Usual (p ∷ ps)) >>= λ h. Give (with_first (list_from g.0 g.1) h)
@@ -191,7 +191,7 @@ module _ (body : Body) (d top : ℕ) (w : List Shape) (n : ℕ) (P : Spelling) (
                   ∙ ap (λ us. Ok (side_by_side us (max A.height H.height), from w j)) (ap (λ t. t ∷ M.others) (sym M.is_first.1.0) ∙ sym M.value);
             }
         | inr O ↦ let A : GotAll (read body d (gathered_by (Ended s e) due (part due least) before i.place) (from w i)) top us false k.place w k = (G (out (in_e O.0))).0
-                (ap (λ n. nat_eq n (class_number s)) (O.0 ∙ is_e) ∙ not_true (nat_eq (class_number e) (class_number s)) named.1) in
+            (ap (λ n. nat_eq n (class_number s)) (O.0 ∙ is_e) ∙ not_true (nat_eq (class_number e) (class_number s)) named.1) in
             let H : GotParts (read body d (pieces_in part own f Usual (Maybe c ∷ (Token z ∷ ps))) (from w k)) top M.others w j = long Usual M.others k (inr O) in
             record {
               height = max A.height H.height;
@@ -233,12 +233,12 @@ module _ (body : Body) (d top : ℕ) (w : List Shape) (n : ℕ) (P : Spelling) (
       same_parts ts j (token_on (is_class c (seen_at w i)) (pieces_in part own f Usual ps) i (is_it w c i M.0)) (pieces_read own f Usual ps ts (step i) j R N F o M.1)
   pieces_read own f before (Maybe c ∷ ps) ts i j R N F o (inl M) =
       same_parts ts j (maybe_at (is_class c (seen_at w i)) true (Next (pieces_in part own f Usual ps)) (pieces_in part own f Usual ps) i (is_it w c i M.0))
-          (pieces_read own f Usual ps ts (step i) j R N (both (parted (opens own f ps) (class_number c ∷ [])) _ F).1 (past_maybe own c ps j.place o) M.1)
+      (pieces_read own f Usual ps ts (step i) j R N (both (parted (opens own f ps) (class_number c ∷ [])) _ F).1 (past_maybe own c ps j.place o) M.1)
   pieces_read own f before (Maybe c ∷ ps) ts i j R N F o (inr M) =
       let fit = both (parted (opens own f ps) (class_number c ∷ [])) _ F in
       let out : Off (class_number c ∷ []) w i.place = ends_off own f Usual ps (class_number c ∷ []) i j fit.0 (starts_so w P B own f Usual ps ts i j R M) (λ b. off_head (blank own Usual ps) (class_number c ∷ []) (follows own ps) w j.place b o) in
       same_parts ts j (maybe_at (is_class c (seen_at w i)) false (Next (pieces_in part own f Usual ps)) (pieces_in part own f Usual ps) i (is_not w c i out))
-          (pieces_read own f Usual ps ts i j R N fit.1 (past_maybe own c ps j.place o) M)
+      (pieces_read own f Usual ps ts i j R N fit.1 (past_maybe own c ps j.place o) M)
   pieces_read own f before (Own ∷ ps) ts i j R N F o M =
       same_parts ts j (token_on (has (held_class f) (class_at w i)) (pieces_in part own f Usual ps) i M.0.1) (pieces_read own f Usual ps ts (step i) j R N F o M.1)
   pieces_read own f before (One due least ∷ ps) ts i j R N F o M =
@@ -246,7 +246,7 @@ module _ (body : Body) (d top : ℕ) (w : List Shape) (n : ℕ) (P : Spelling) (
       let fit = both (parted (opens own f ps) (goes_on (inside own due) least)) _ F in
       let next : Before = before_by (is_absent M.first) in
       let out : Off (goes_on (inside own due) least) w M.place.place = ends_off own f next ps (goes_on (inside own due) least) M.place j fit.0 (starts_so w P B own f next ps M.others M.place j r.1 M.are_others)
-          (λ b. off_head (blank own Usual ps) (goes_on (inside own due) least) (follows own ps) w j.place (usually own next ps b) o) in
+      (λ b. off_head (blank own Usual ps) (goes_on (inside own due) least) (follows own ps) w j.place (usually own next ps b) o) in
       let G : Got (read body d (part (inside own due) least) (from w i)) top M.first w M.place = E (inside own due) least M.first i M.place r.0 (omega (arith, N)) M.is_first out in
       let H : GotParts (read body d (pieces_in part own f next ps) (from w M.place)) top M.others w j = pieces_read own f next ps M.others M.place j r.1 (omega (arith, N)) fit.1 (past_one own due least ps j.place o) M.are_others in
       record {
@@ -261,7 +261,7 @@ module _ (body : Body) (d top : ℕ) (w : List Shape) (n : ℕ) (P : Spelling) (
       let fit = both (group_fits own f (Ended s e) due least (Maybe c ∷ (Token z ∷ ps))) _ F in
       let out = past_group own (Ended s e) due least (Maybe c ∷ (Token z ∷ ps)) j.place o in
       end_follows own f s e due least before c z ps ts i j r.0 (omega (arith, N)) fit.0 M (λ before ts k M. pieces_read own f before (Token z ∷ ps) ts k j r.1 (omega (arith, N)) (both (parted (opens own f (Token z ∷ ps)) (class_number c ∷ [])) _ fit.1).1 (past_maybe own c (Token z ∷ ps) j.place out) M)
-          (λ before ts k M. pieces_read own f before (Maybe c ∷ (Token z ∷ ps)) ts k j r.1 (omega (arith, N)) fit.1 out M)
+      (λ before ts k M. pieces_read own f before (Maybe c ∷ (Token z ∷ ps)) ts k j r.1 (omega (arith, N)) fit.1 out M)
   pieces_read own f before (Group (Ended s e) due least ∷ ps) ts i j R N F o M = absurd (cc (ended_part own f s e due least ps (both (group_fits own f (Ended s e) due least ps) _ F).0))
   pieces_read own f before (Group Optional due least ∷ ps) ts i j R N F o M = let r = both (is_read due && not (may_be_empty due)) _ R in let k = both (group_fits own f Optional due least ps) _ F in
       grouped own f Optional due least before ps ts i j refl r.0 (omega (arith, N)) r.1 k.0 o M (λ before ts k' M. pieces_read own f before ps ts k' j r.1 (omega (arith, N)) k.1 (past_group own Optional due least ps j.place o) M) _ refl

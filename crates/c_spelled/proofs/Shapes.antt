@@ -1,5 +1,5 @@
 -- A token that is seen as a keyword or as a punctuator is that one, and no token is seen as a placeholder.
-use Rattle.std.proofs.Common.{◌≡◌, refl, subst, ap, sym, ◌∙◌, ℕ, ◌+◌, ◌<◌, Bool, true, false, nat_eq, if◌then◌else◌, List, [], ◌∷◌, Option, Some, None, lit<, arith}
+use Rattle.std.proofs.Common.{◌≡◌, refl, ap, sym, ◌∙◌, ℕ, ◌+◌, ◌<◌, Bool, true, false, nat_eq, if◌then◌else◌, List, [], ◌∷◌, Option, Some, None, lit<, arith}
 use Rattle.c_tokens.specs.declared.token.Key.{Key}
 use Rattle.c_tokens.specs.declared.token.Key.TheVariants as k
 use Rattle.c_tokens.specs.declared.token.Punct.{Punct}
@@ -10,9 +10,8 @@ use Rattle.c_tokens.specs.declared.token.Shape.{Shape}
 use Rattle.c_tokens.specs.declared.token.Shape.TheVariants as shape
 use Rattle.c_tokens.specs.declared.class.Class.TheVariants as class
 use Rattle.c_tokens.specs.ClassNumbers.{class_number, key_number, punct_number, mark_number}
-use Rattle.c_tokens.specs.ClassOf.{class_of}
-use Rattle.c_forms.specs.Sets.{Classes, has, all_puncts, type_word}
-use Rattle.c_reader.specs.States.{State, class as class_in, is_type, word_class}
+use Rattle.c_forms.specs.Sets.{all_puncts}
+use Rattle.c_reader.specs.States.{State, class as class_in, word_class}
 use Rattle.c_reader.proofs.Sets.{same_class}
 use Rattle.c_reader.proofs.Seen.{written, written_so, fixed}
 

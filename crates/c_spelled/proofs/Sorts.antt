@@ -1,51 +1,40 @@
 -- What is spelled is read, of each sort that is a part.
-use Rattle.std.proofs.Common.{◌≡◌, ◌⊎◌, inl, inr, refl, subst, ap, sym, ◌∙◌, ℕ, zero, suc, ◌+◌, ◌<◌, ◌≤◌, max, not, Bool, true, false, ◌||◌, ◌&&◌, List, length, [], ◌∷◌, ◌++◌, nat_eq, Option, Some, None, Ok, Err, arith}
+use Rattle.std.proofs.Common.{◌≡◌, inl, inr, refl, ℕ, zero, suc, ◌≤◌, Bool, true, false, List, arith}
 use Rattle.c_tokens.specs.declared.token.Shape.{Shape}
-use Rattle.c_tokens.specs.declared.token.Shape.TheVariants as shape
-use Rattle.c_tokens.specs.declared.token.Word.{Word}
 use Rattle.c_tokens.specs.declared.token.Punct.TheVariants as punct
 use Rattle.c_tokens.specs.declared.class.Class.TheVariants as class
-use Rattle.c_tokens.specs.ClassNumbers.{class_number}
 use Rattle.c_forms.specs.declared.pieces.Event.TheVariants as event
 use Rattle.c_forms.specs.declared.pieces.Sort.{Sort}
 use Rattle.c_forms.specs.declared.pieces.Sort.TheVariants as s
-use Rattle.c_forms.specs.declared.forms.Form.{Form}
 use Rattle.c_forms.specs.declared.forms.Form.TheVariants as form
-use Rattle.c_forms.specs.declared.forms.ExpForm.TheVariants as exp
-use Rattle.c_forms.specs.declared.forms.SpecForm.TheVariants as spec
-use Rattle.c_forms.specs.declared.forms.DeclaratorForm.{DeclaratorForm}
-use Rattle.c_forms.specs.declared.forms.DeclaratorForm.TheVariants as declarator
 use Rattle.c_forms.specs.declared.forms.GroupForm.TheVariants as group
 use Rattle.c_forms.specs.Forests.{Plain}
-use Rattle.c_forms.specs.Forests as forests
-use Rattle.c_forms.specs.Measures.{level, pieces}
-use Rattle.c_forms.specs.Sets.{Classes, has, starts, goes_on, type_word}
-use Rattle.c_reader.specs.States.{State, seen, class as class_in, happens}
-use Rattle.c_reader.specs.Tokens.{Spot, spot, step, turned, raw_at, seen_at, class_at}
-use Rattle.c_reader.specs.Readers.{Input, Reader, Found, Outcome, Body, Rule, Of, Opened, read, below}
+use Rattle.c_forms.specs.Sets.{has, starts, goes_on}
+use Rattle.c_reader.specs.States.{happens}
+use Rattle.c_reader.specs.Tokens.{Spot, step, turned, class_at}
+use Rattle.c_reader.specs.Readers.{Opened, below}
 use Rattle.c_reader.proofs.Local.{from}
 use Rattle.c_syntax.specs.Allowed.{places}
-use Rattle.c_syntax.specs.Reading.{Parts, called, is_absent, is_starred, inside, spanned}
-use Rattle.c_syntax.specs.Grammar.{Standing, absent_at, opened, at_sort, in_place, body}
-use Rattle.c_syntax.specs.Spells.{Spelling, nothing_spelled, Is, Matches, IsNode, Wraps, may_be, AnyWord, ValueWord, IsLiteral, after_name, At, InPlace, Spells}
+use Rattle.c_syntax.specs.Reading.{called, is_absent}
+use Rattle.c_syntax.specs.Grammar.{at_sort, in_place, body}
+use Rattle.c_syntax.specs.Spells.{Spelling, Is, IsNode, AnyWord, ValueWord, IsLiteral, At, InPlace}
 use Rattle.c_spelled.specs.Fitting.{is_read, need}
 use Rattle.c_spelled.proofs.Off.{Off}
-use Rattle.c_spelled.proofs.Begins.{AllBegin, in_place_begins, spells_begin}
-use Rattle.c_spelled.proofs.Balance.{AllSame, spells_same}
-use Rattle.c_spelled.proofs.Groups.{Got}
+use Rattle.c_spelled.proofs.Begins.{AllBegin, in_place_begins}
+use Rattle.c_spelled.proofs.Balance.{AllSame}
 use Rattle.c_spelled.proofs.Pieces.{AllRead}
 use Rattle.c_spelled.proofs.Nodes.{Room, only_read, id_read, declared_read, parameter_read, enumerator_read, literal_read}
 use Rattle.c_spelled.proofs.Parts.{any_spec_read, plain_spec_read, qualifier_read, block_read, init_read}
 use Rattle.c_spelled.proofs.Params.{params_read}
 use Rattle.c_spelled.proofs.Climb.{AllCalled, Lower, called_read}
-use Rattle.c_spelled.proofs.Exps.{EndOff, RisesExp, exp_read, exp_rises, opened_read}
+use Rattle.c_spelled.proofs.Exps.{EndOff, RisesExp, exp_read}
 use Rattle.c_spelled.proofs.Heads.{Clear, RisesSo, There}
 use Rattle.c_spelled.proofs.Declarators as with_name
 use Rattle.c_spelled.proofs.Abstracts as without_name
 use Rattle.c_spelled.proofs.ParamDeclarators as of_parameter
 use Rattle.c_spelled.proofs.MemberNames as of_member
-use Rattle.c_spelled.proofs.Stmts.{AtWord, stmt_read}
-use Rattle.c_spelled.proofs.Blocks.{AtType, block_item_read}
+use Rattle.c_spelled.proofs.Stmts.{stmt_read}
+use Rattle.c_spelled.proofs.Blocks.{block_item_read}
 use Rattle.c_spelled.proofs.AtFirst.{at_word, at_type}
 use Rattle.c_spelled.proofs.Alone.{type_name_form, member_form, enumerator_form, param_form, decl_form, init_declarator_form, initializer_form, member_declarator_form, width_form, members_form, enumerators_form, enumerator_value_form, else_part_form}
 

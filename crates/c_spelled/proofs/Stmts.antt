@@ -1,58 +1,43 @@
 -- What spells a statement is read (ISO/IEC 9899:1990, 6.6).
-use Rattle.std.proofs.Common.{◌≡◌, ◌⊎◌, inl, inr, refl, subst, ap, sym, ◌∙◌, ℕ, zero, suc, ◌+◌, ◌-◌, ◌<◌, ◌≤◌, max, not, nat_lt, Bool, true, false, ◌||◌, ◌&&◌, List, length, [], ◌∷◌, ◌++◌, nat_eq, Option, Some, None, Ok, Err, arith}
-use Rattle.std.proofs.lemmas.Bool.{lt-ltb, eq-eqb, and_from, or_left, or_right}
-use borrow.Author.Tests.{ltb-true, ltb-false}
+use Rattle.std.proofs.Common.{◌≡◌, inl, inr, refl, subst, ap, sym, ◌∙◌, ℕ, ◌+◌, ◌≤◌, not, Bool, true, false, ◌||◌, ◌&&◌, List, length, [], ◌∷◌, nat_eq, Some, None, Ok, arith}
+use Rattle.std.proofs.lemmas.Bool.{lt-ltb}
 use Rattle.c_tokens.specs.declared.token.Key.TheVariants as key
-use Rattle.c_tokens.specs.declared.token.Punct.{Punct}
 use Rattle.c_tokens.specs.declared.token.Punct.TheVariants as punct
 use Rattle.c_tokens.specs.declared.token.Shape.{Shape}
 use Rattle.c_tokens.specs.declared.token.Shape.TheVariants as shape
-use Rattle.c_tokens.specs.declared.class.Class.{Class}
 use Rattle.c_tokens.specs.declared.class.Class.TheVariants as class
 use Rattle.c_tokens.specs.ClassNumbers.{class_number}
-use Rattle.c_forms.specs.declared.pieces.Event.TheVariants as event
-use Rattle.c_forms.specs.declared.pieces.Sort.{Sort}
 use Rattle.c_forms.specs.declared.pieces.Sort.TheVariants as s
-use Rattle.c_forms.specs.declared.pieces.Piece.{Piece}
 use Rattle.c_forms.specs.declared.forms.Form.{Form}
 use Rattle.c_forms.specs.declared.forms.Form.TheVariants as form
-use Rattle.c_forms.specs.declared.forms.ExpForm.{ExpForm}
-use Rattle.c_forms.specs.declared.forms.ExpForm.TheVariants as exp
-use Rattle.c_forms.specs.declared.forms.SpecForm.TheVariants as spec
 use Rattle.c_forms.specs.declared.forms.StmtForm.TheVariants as stmt
-use Rattle.c_forms.specs.declared.forms.ItemForm.TheVariants as item
-use Rattle.c_forms.specs.declared.forms.TemplateForm.TheVariants as template
-use Rattle.c_forms.specs.declared.forms.GroupForm.TheVariants as group
 use Rattle.c_forms.specs.Forests.{Plain}
 use Rattle.c_forms.specs.Forests as forests
-use Rattle.c_forms.specs.Measures.{level, pieces}
-use Rattle.c_forms.specs.Tokens.{begun, continued}
-use Rattle.c_forms.specs.Sets.{Classes, has, within, starts, goes_on, all_puncts}
-use Rattle.c_reader.specs.States.{State, seen, class as class_in, happens}
-use Rattle.c_reader.specs.Tokens.{Spot, spot, step, turned, raw_at, seen_at, class_at}
-use Rattle.c_reader.specs.Readers.{Input, Reader, Found, Outcome, Body, Rule, Of, Opened, Give, Refuse, Look, Next, Pick, Bind, Fits, Call, Ask, Change, read, below, and_then, choose, when, pick, only, ◌>>=◌, ◌>>◌, token}
+use Rattle.c_forms.specs.Measures.{pieces}
+use Rattle.c_forms.specs.Tokens.{begun}
+use Rattle.c_forms.specs.Sets.{has, starts, goes_on}
+use Rattle.c_reader.specs.States.{State, seen, class as class_in}
+use Rattle.c_reader.specs.Tokens.{Spot, step, raw_at, seen_at, class_at}
+use Rattle.c_reader.specs.Readers.{Input, Reader, Found, Body, Refuse, read, and_then, choose, when}
 use Rattle.c_reader.proofs.Local.{from}
-use Rattle.c_reader.proofs.Sets.{both, not_true, contrary, itself, single, only_single, same_class, either}
+use Rattle.c_reader.proofs.Sets.{single, same_class, either}
 use Rattle.c_syntax.specs.Allowed.{places}
-use Rattle.c_syntax.specs.Reading.{Listed, Parts, nothing, one, node, deeper as deeper_one, called, parts_of, is_starred, spanned, is_class, Usual, joined, height_over, completed}
-use Rattle.c_syntax.specs.Grammar.{is_word, is_value, label, name_leaf, id_leaf, word_led, worded, statement_by, statement, after_part, Standing, standing, sign, is_sign, begins, left_level, after_first, after_paren, may_follow, is_tail, continued_by, tight, whole, type_or, entered, sized, sized_opened, begun_by, primary, expression, opened, parenthesized, climb}
-use Rattle.c_syntax.specs.Spells.{Spelling, Is, Matches, Levels, parts_spelled, IsNode, Wraps, may_be, AnyWord, Parted}
-use Rattle.c_spelled.specs.Fitting.{is_read, reads, follows, fitting, blank, need, needs, bound, is_leveled, is_typed_list, is_apt, unapt, loose, prefix, operands_fit}
-use Rattle.c_spelled.proofs.Off.{Off, on_here, off, off_both, off_left, off_right}
-use Rattle.c_spelled.proofs.Opens.{Begun, starts_so}
+use Rattle.c_syntax.specs.Reading.{Parts, nothing, one, node, deeper as deeper_one, called, is_starred, spanned, Usual, completed}
+use Rattle.c_syntax.specs.Grammar.{is_word, is_value, label, name_leaf, id_leaf, word_led, worded, statement_by, statement, after_part, Standing, is_sign, after_first, is_tail, continued_by, whole, climb}
+use Rattle.c_syntax.specs.Spells.{Spelling, Is, Matches, Levels, parts_spelled, IsNode, may_be, AnyWord}
+use Rattle.c_spelled.specs.Fitting.{need, is_typed_list}
+use Rattle.c_spelled.proofs.Off.{Off, on_here, off}
 use Rattle.c_spelled.proofs.Begins.{AllBegin}
 use Rattle.c_spelled.proofs.Groups.{Got}
-use Rattle.c_spelled.proofs.Pieces.{AllRead, GotParts, is_it, is_not}
+use Rattle.c_spelled.proofs.Pieces.{AllRead, is_it}
 use Rattle.c_spelled.proofs.Shapes.{is_punct, is_key}
-use Rattle.c_spelled.proofs.Nodes.{Room, Parts_match, off_within, same_got, whole_read, the_parts, complete_node}
-use Rattle.c_spelled.proofs.Levels.{off_unapt, off_operator}
+use Rattle.c_spelled.proofs.Nodes.{Room, same_got, the_parts, complete_node}
 use Rattle.c_forms.specs.declared.forms.StmtForm.{StmtForm}
-use Rattle.c_tokens.specs.declared.token.Key.{Key}
-use Rattle.c_reader.specs.States.{is_type, word_class}
+use Rattle.c_reader.specs.States.{is_type}
 use Rattle.c_reader.proofs.Loops.{same_place}
 use Rattle.c_spelled.proofs.Alone.{stmt_is}
-use Rattle.c_spelled.proofs.Nodes.{fits_of, node_read, a_word}
-use Rattle.c_spelled.proofs.Climb.{stand, turns, turn_off}
+use Rattle.c_spelled.proofs.Nodes.{node_read, a_word}
+use Rattle.c_spelled.proofs.Climb.{turns, turn_off}
 use Rattle.c_spelled.proofs.Turns.{stay, stop}
 
 -- what begins an expression is no statement's own token
@@ -127,13 +112,13 @@ module _ (body : Body) (d top : ℕ) (w : List Shape) (levels : Type 0) (room : 
       let leaf : Found = node (form.Id word) i.place (i.place + 1) nothing in
       let P = the_parts body d top w levels room n deeper inner part DB IB DE IE s.Stmt f (after_first (pieces f)) M.others (step i) j refl (omega arith) refl (λ _. refl) X in
       let C : Got (read body d (completed called s.Stmt f i.place (one (deeper_one leaf)) (after_first (pieces f))) (from w (step i))) top (forests.node f (spanned i.place j.place) (leaf.tree ∷ M.others)) w j =
-          complete_node body d top w levels room n deeper inner part DB IB DE IE s.Stmt f i.place (one (deeper_one leaf)) (after_first (pieces f)) M.others (step i) j v (omega (arith, some)) P in
+      complete_node body d top w levels room n deeper inner part DB IB DE IE s.Stmt f i.place (one (deeper_one leaf)) (after_first (pieces f)) M.others (step i) j v (omega (arith, some)) P in
       let same : t ≡ forests.node f (spanned i.place j.place) (leaf.tree ∷ M.others) = value ∙ ap (λ ps. forests.node f (spanned i.place j.place) ps) (M.value ∙ ap (λ t. t ∷ M.others) A.0.1.1) in
       let is : is_word (seen_at w i) ≡ true = ap (λ x. is_word (seen i.state x)) raw ∙ a_word body d top w word (not i.state.kept.has_type && is_type i.state.entries word.0) in
       same_got top w t (forests.node f (spanned i.place j.place) (leaf.tree ∷ M.others)) j _ _
-        (at_statement i true is ∙ at_worded i true (is_it w (class.Punct punct.Colon) (step i) X.0)
-        ∙ ap (λ b. when b (read body d (after_part called s.Stmt f i.place (deeper_one (id_leaf i.place (raw_at w i.place)))) (from w (step i))) (step i).place) (lt-ltb 0 d (room v).0)
-        ∙ ap (λ x. read body d (after_part called s.Stmt f i.place (deeper_one (id_leaf i.place x))) (from w (step i))) raw) same C
+      (at_statement i true is ∙ at_worded i true (is_it w (class.Punct punct.Colon) (step i) X.0)
+      ∙ ap (λ b. when b (read body d (after_part called s.Stmt f i.place (deeper_one (id_leaf i.place (raw_at w i.place)))) (from w (step i))) (step i).place) (lt-ltb 0 d (room v).0)
+      ∙ ap (λ x. read body d (after_part called s.Stmt f i.place (deeper_one (id_leaf i.place x))) (from w (step i))) raw) same C
 
   -- ---- expressions
 
@@ -141,7 +126,7 @@ module _ (body : Body) (d top : ℕ) (w : List Shape) (levels : Type 0) (room : 
   express t i j parts e N value M = by_word (is_word (seen_at w i)) refl
     where
       begins_exp : has (starts s.Exp) (class_at w i) ≡ true
-      begins_exp = elim (IB s.Exp 1 M.first i M.place refl M.is_first) [ | inl b ↦ b.0 | inr x ↦ absurd (cc x.0) ]
+      begins_exp = elim (IB s.Exp 1 M.first i M.place refl M.is_first) [ inl b ↦ b.0 | inr x ↦ absurd (cc x.0) ]
 
       value_word : is_word (seen_at w i) ≡ true → Is w class.Word i
       value_word y = elim (either (nat_eq (class_at w i) 113) (nat_eq (class_at w i) 3000) y) [
@@ -165,10 +150,10 @@ module _ (body : Body) (d top : ℕ) (w : List Shape) (levels : Type 0) (room : 
           let f : Form = form.Stmt stmt.Express in
           let P = the_parts body d top w levels room n deeper inner part DB IB DE IE s.Stmt f (after_first (pieces f)) M.others M.place j refl (omega arith) refl (λ _. refl) M.are_others in
           let C : Got (read body d (completed part s.Stmt f i.place (one (record { tree = M.first; height = the_exp.height })) (after_first (pieces f))) (from w M.place)) top (forests.node f (spanned i.place j.place) (M.first ∷ M.others)) w j =
-              complete_node body d top w levels room n deeper inner part DB IB DE IE s.Stmt f i.place (one (record { tree = M.first; height = the_exp.height })) (after_first (pieces f)) M.others M.place j tt the_exp.low P in
+          complete_node body d top w levels room n deeper inner part DB IB DE IE s.Stmt f i.place (one (record { tree = M.first; height = the_exp.height })) (after_first (pieces f)) M.others M.place j tt the_exp.low P in
           same_got top w t (forests.node f (spanned i.place j.place) (M.first ∷ M.others)) j _ _
-            (ap (λ b. read body d (choose b (word_led part i.place (seen_at w i)) Refuse) (from w (step i))) (is_it w class.Word i y)
-            ∙ ap (λ o. and_then o (λ y j. read body d (after_part part s.Stmt f i.place y) j)) (sym (EW i y) ∙ the_exp.reads)) (value ∙ ap (λ ps. forests.node f (spanned i.place j.place) ps) M.value) C
+          (ap (λ b. read body d (choose b (word_led part i.place (seen_at w i)) Refuse) (from w (step i))) (is_it w class.Word i y)
+          ∙ ap (λ o. and_then o (λ y j. read body d (after_part part s.Stmt f i.place y) j)) (sym (EW i y) ∙ the_exp.reads)) (value ∙ ap (λ ps. forests.node f (spanned i.place j.place) ps) M.value) C
 
       by_word : (b : Bool) → is_word (seen_at w i) ≡ b → Goal t i j
       by_word false y = same_got top w t t j _ _ (at_statement i false y ∙ ap (λ o. read body d (statement_by part o) (from w i)) (no_stmt i.state (raw_at w i.place) begins_exp)) refl (whole_node (form.Stmt stmt.Express) t i j e N)

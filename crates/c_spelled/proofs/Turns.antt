@@ -1,5 +1,5 @@
 -- Turns of a loop, each of which goes on to a later token.
-use Rattle.std.proofs.Common.{◌≡◌, refl, subst, ap, sym, ◌∙◌, ℕ, zero, suc, ◌+◌, ◌<◌, ◌≤◌, List, length, Ok, Err, arith}
+use Rattle.std.proofs.Common.{◌≡◌, refl, ap, ◌∙◌, ℕ, zero, suc, ◌+◌, ◌<◌, ◌≤◌, List, length, Ok, Err, arith}
 use Rattle.c_tokens.specs.declared.token.Shape.{Shape}
 use Rattle.c_reader.specs.Tokens.{Spot}
 use Rattle.c_reader.specs.Readers.{Input, Outcome, Turn, More, Last, and_then, after, loop}

@@ -1,5 +1,5 @@
 -- What tokens spell they spell in one way.
-use Rattle.std.proofs.Common.{◌≡◌, ap, sym, ◌∙◌, ℕ, ◌≤◌, max, Bool, true, List, Ok, arith}
+use Rattle.std.proofs.Common.{◌≡◌, ap, sym, ◌∙◌, ℕ, max, true, List, Ok, arith}
 use Rattle.c_tokens.specs.declared.token.Shape.{Shape}
 use Rattle.c_forms.specs.declared.pieces.Sort.{Sort}
 use Rattle.c_forms.specs.declared.pieces.Sort.TheVariants as s
@@ -20,9 +20,10 @@ use Rattle.c_spelled.proofs.Complete.{Between, complete_at}
 
 -- what is read twice is the same, and ends at the same place
 same_twice : (o : Outcome Found) (a b : ℕ) (w : List Shape) (t u : Plain) (j k : Spot) → Got o a t w j → Got o b u w k → (t ≡ u) × (j ≡ k)
-same_twice o a b w t u j k G H = let both : Ok (record { tree = t; height = G.height }, from w j) ≡ Ok (record { tree = u; height = H.height }, from w k) = sym G.reads ∙ H.reads in
-    (ap (λ (x : Found). x.tree) (same_answer (record { tree = t; height = G.height }) (record { tree = u; height = H.height }) (from w j) (from w k) both),
-    ap (λ (i : Input). i.at) (same_place (record { tree = t; height = G.height }) (record { tree = u; height = H.height }) (from w j) (from w k) both))
+same_twice o a b w t u j k G H = let both : Ok (record { tree = t; height = G.height }, from w j) ≡ Ok (record { tree = u; height = H.height }, from w k) = sym G.reads ∙ H.reads in (
+  ap (λ (x : Found). x.tree) (same_answer (record { tree = t; height = G.height }) (record { tree = u; height = H.height }) (from w j) (from w k) both),
+  ap (λ (i : Input). i.at) (same_place (record { tree = t; height = G.height }) (record { tree = u; height = H.height }) (from w j) (from w k) both),
+)
 
 -- of an external declaration, however deep
 pub one_item : (d e : ℕ) (w : List Shape) (t u : Plain) (i j k : Spot) → Between i.state → Spells d w s.Item 0 t i j → Spells e w s.Item 0 u i k → (t ≡ u) × (j ≡ k)
