@@ -24,7 +24,8 @@ use Rattle.c_syntax.specs.Allowed.{places}
 use Rattle.c_syntax.specs.Reading.{Parts, one, node, deeper, called, parts_by, is_starred, height_over, spanned, is_class, Usual, joined, pieces_in, completed}
 use Rattle.c_syntax.specs.Grammar.{Standing, standing, parenthesized, left_level, continued_by, may_follow, is_tail, tail_by, turn, climb, tight, after_first, after_part}
 use Rattle.c_syntax.specs.Spells.{Spelling, Is, Matches}
-use Rattle.c_spelled.specs.Fitting.{is_read, reads, follows, fitting, needs, is_leveled, unapt, operands_fit, source_end}
+use Rattle.c_spelled.specs.Fitting.{is_read, reads, follows, fitting, needs, is_leveled, source_end}
+use Rattle.c_spelled.specs.Operators.{unapt, operands_fit}
 use Rattle.c_spelled.proofs.Off.{Off, in_list}
 use Rattle.c_spelled.proofs.Begins.{AllBegin}
 use Rattle.c_spelled.proofs.Turns.{Comes, stay, go, stop}

@@ -28,7 +28,8 @@ use Rattle.c_spelled.proofs.Off.{Off}
 use Rattle.c_spelled.proofs.Begins.{AllBegin, in_place_begins, spells_begin}
 use Rattle.c_spelled.proofs.Balance.{spells_same}
 use Rattle.c_spelled.proofs.Groups.{Got}
-use Rattle.c_spelled.proofs.Exps.{EndOff, RisesExp, exp_rises, opened_read}
+use Rattle.c_spelled.proofs.Exps.{exp_rises, opened_read}
+use Rattle.c_spelled.proofs.Operands.{EndOff, RisesExp}
 use Rattle.c_spelled.proofs.Heads.{RisesSo, There}
 use Rattle.c_spelled.proofs.Declarators as with_name
 use Rattle.c_spelled.proofs.Abstracts as without_name

@@ -35,7 +35,8 @@ use Rattle.c_syntax.specs.Allowed.{places}
 use Rattle.c_syntax.specs.Reading.{Parts, nothing, one, node, deeper as deeper_one, called, parts_of, is_starred, spanned, is_class, Usual, completed}
 use Rattle.c_syntax.specs.Grammar.{Standing, standing, is_sign, begins, left_level, after_first, after_paren, may_follow, tight, whole, type_or, entered, sized, sized_opened, begun_by, primary, expression, opened, parenthesized, climb}
 use Rattle.c_syntax.specs.Spells.{Spelling, Is, Matches, Levels, parts_spelled, IsNode, Wraps, IsLiteral, Parted, Chain}
-use Rattle.c_spelled.specs.Fitting.{reads, follows, fitting, blank, needs, bound, is_apt, unapt, loose, prefix, operands_fit}
+use Rattle.c_spelled.specs.Fitting.{reads, follows, fitting, blank, needs, bound}
+use Rattle.c_spelled.specs.Operators.{is_apt, unapt, loose, prefix, operands_fit}
 use Rattle.c_spelled.proofs.Off.{Off, on_here, off, off_both, off_left}
 use Rattle.c_spelled.proofs.Opens.{starts_so}
 use Rattle.c_spelled.proofs.Begins.{AllBegin}
@@ -46,46 +47,7 @@ use Rattle.c_spelled.proofs.Nodes.{Room, off_within, whole_read, the_parts, comp
 use Rattle.c_spelled.proofs.Levels.{off_unapt, off_operator}
 use Rattle.c_spelled.proofs.Alone.{exp_is}
 use Rattle.c_spelled.proofs.Climb.{AllCalled, Lower, called_read, in_parens, Tight, tight_in, stand, stands_at, tight_at, Rises, begin, longer, finish, ends_at}
-
-abbrev held_or : Shape → Option Shape → Shape
-held_or x (Some y) = y
-held_or x None = x
-
-held_so : (x y : Shape) → Some x ≡ Some y → y ≡ x
-held_so x y e = ap (held_or x) (sym e)
-
-no_string : (p : Punct) → nat_eq (class_number class.Str) (class_number (class.Punct p)) ≡ false
-no_string punct.LeftBracket = refl
-no_string _ = refl
-
--- a form may go on after a left operand that is tight enough
-pub apt_so : (f : Form) (m l : ℕ) → level f ≤ m → m ≤ 17 → left_level (pieces f) ≡ m → Tight m l → is_apt l f ≡ true
-apt_so f m l up few e t = by_less (nat_lt (level f) l) refl
-  where
-    by_less : (b : Bool) → nat_lt (level f) l ≡ b → (b || (nat_eq (level f) l && nat_eq (left_level (pieces f)) l)) ≡ true
-    by_less true y = refl
-    by_less false y = let le : l ≤ level f = ltb-false (level f) l y in let k : m ≤ l = tight_in m l few t in
-        and_from (nat_eq (level f) l) (nat_eq (left_level (pieces f)) l) (eq-eqb (level f) l (omega (arith, le, k, up))) (eq-eqb (left_level (pieces f)) l (e ∙ omega (arith, le, k, up)))
-
--- an operand's end
-abbrev pub EndOff : Sort → List Shape → ℕ → Spot → Type 0
-EndOff due w m k = (l : ℕ) → Tight m l → Off (unapt due l) w k.place
-
-pub end_off : (least : ℕ) (w : List Shape) (j : Spot) → Off (goes_on s.Exp least) w j.place → EndOff s.Exp w least j
-end_off least w j o l (inl le) = off_unapt s.Exp least l w j.place refl le o
-end_off least w j o l (inr e) = subst (λ l. Off (unapt s.Exp l) w j.place) (sym e) (off_left (prefix s.Exp) _ w j.place o)
-
--- the parenthesis that an operand of sizeof begins with
-abbrev pub opened_head : Reader Standing
-opened_head = Look (λ x. choose (begins s.Exp x) (Fits 0 (standing 17 (parenthesized s.Exp))) Refuse)
-
--- where it stands no type name follows it, and it is read after it
-abbrev pub Enters : Body → ℕ → List Shape → ℕ → Spot → Standing → Spot → Type 0
-Enters body d w l i first place = 15 ≤ l → Is w (class.Punct punct.LeftParen) i
-    → (has (starts s.TypeName) (class_at w (turned (happens event.Aside) (step i))) ≡ false) × (read body d opened_head (from w (step i)) ≡ Ok (first, from w place))
-
-abbrev pub RisesExp : Body → ℕ → List Shape → Parts → ℕ → ℕ → Spot → Plain → ℕ → Spot → Type 0
-RisesExp body d w part l most i t m j = Rises body d w s.Exp l i.place (Enters body d w l i) (primary part l) most i t m j
+use Rattle.c_spelled.proofs.Operands.{held_so, no_string, apt_so, EndOff, end_off, opened_head, Enters, RisesExp}
 
 module _ (body : Body) (d top : ℕ) (w : List Shape) (levels : Type 0) (room : Room levels d top) (under : top ≤ d) (deeper inner : Spelling) (part : Parts)
     (DB : AllBegin w deeper) (IB : AllBegin w inner) (DC : AllCalled body d top w deeper) (IE : AllRead body d top w 1 inner part) (IL : (least : ℕ) (t : Plain) (i j : Spot) → inner s.Literal least t i j → IsLiteral w t i)

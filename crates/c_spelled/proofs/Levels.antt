@@ -16,7 +16,8 @@ use Rattle.c_forms.specs.Sets.{Classes, has, given, goes_on, all_puncts}
 use Rattle.c_reader.specs.States.{class as class_in}
 use Rattle.c_reader.specs.Tokens.{Spot, raw_at}
 use Rattle.c_reader.proofs.Sets.{either, not_true, same_class, single, only_single, has_left, has_right, has_either, given_true}
-use Rattle.c_spelled.specs.Fitting.{is_leveled, is_tight, tails, is_apt, is_unapt, loose, unapt, prefix}
+use Rattle.c_spelled.specs.Fitting.{is_leveled}
+use Rattle.c_spelled.specs.Operators.{is_tight, tails, is_apt, is_unapt, loose, unapt, prefix}
 use Rattle.c_spelled.proofs.Off.{Off, off_left, off_right, off_both}
 use Rattle.c_spelled.proofs.Shapes.{same_punct}
 

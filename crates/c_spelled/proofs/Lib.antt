@@ -1,5 +1,6 @@
 mod Off
 mod Opens
+mod LeveledRows
 mod Rows
 mod Begins
 mod Turns
@@ -12,6 +13,7 @@ mod Parts
 mod Params
 mod Levels
 mod Climb
+mod Operands
 mod Exps
 mod Balance
 mod Heads

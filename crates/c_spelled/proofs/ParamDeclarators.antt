@@ -27,7 +27,8 @@ use Rattle.c_syntax.specs.Allowed.{places}
 use Rattle.c_syntax.specs.Reading.{Parts, one, deeper as deeper_one, called, is_starred, spanned, is_class, is_absent, Usual, completed}
 use Rattle.c_syntax.specs.Grammar.{begins_parenthesized, absent_at, the_declarator, nameless_function, opened_declarator, declarator_head, declarator_of, is_value, may_be_absent, may_be_named, Standing, standing, left_level, after_first, may_follow, tight, whole, parenthesized}
 use Rattle.c_syntax.specs.Spells.{Spelling, Is, Matches, Levels, parts_spelled, IsNode, Wraps, may_be, ValueWord, Parted}
-use Rattle.c_spelled.specs.Fitting.{parted, opens, reads, follows, fitting, blank, needs, bound, unapt, loose, prefix, tails, operands_fit}
+use Rattle.c_spelled.specs.Fitting.{parted, opens, reads, follows, fitting, blank, needs, bound}
+use Rattle.c_spelled.specs.Operators.{unapt, loose, prefix, tails, operands_fit}
 use Rattle.c_spelled.proofs.Off.{Off, on_here, off, off_both, off_left}
 use Rattle.c_spelled.proofs.Opens.{starts_so}
 use Rattle.c_spelled.proofs.Begins.{AllBegin}
@@ -38,7 +39,7 @@ use Rattle.c_spelled.proofs.Nodes.{Room, off_within, same_got, whole_read, the_p
 use Rattle.c_spelled.proofs.Levels.{off_unapt, off_operator, not_less, goes_split}
 use Rattle.c_spelled.proofs.Alone.{param_is}
 use Rattle.c_spelled.proofs.Balance.{AllSame, group_same}
-use Rattle.c_spelled.proofs.Exps.{EndOff, apt_so}
+use Rattle.c_spelled.proofs.Operands.{EndOff, apt_so}
 use Rattle.c_forms.specs.declared.pieces.Repetition.TheVariants.{Optional}
 use Rattle.c_forms.specs.declared.forms.DeclaratorForm.{DeclaratorForm}
 use Rattle.c_forms.specs.declared.forms.DeclaratorForm.TheVariants as declarator

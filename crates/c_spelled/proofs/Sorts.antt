@@ -27,7 +27,8 @@ use Rattle.c_spelled.proofs.Nodes.{Room, only_read, id_read, declared_read, para
 use Rattle.c_spelled.proofs.Parts.{any_spec_read, plain_spec_read, qualifier_read, block_read, init_read}
 use Rattle.c_spelled.proofs.Params.{params_read}
 use Rattle.c_spelled.proofs.Climb.{AllCalled, Lower, called_read}
-use Rattle.c_spelled.proofs.Exps.{EndOff, RisesExp, exp_read}
+use Rattle.c_spelled.proofs.Exps.{exp_read}
+use Rattle.c_spelled.proofs.Operands.{EndOff, RisesExp}
 use Rattle.c_spelled.proofs.Heads.{Clear, RisesSo, There}
 use Rattle.c_spelled.proofs.Declarators as with_name
 use Rattle.c_spelled.proofs.Abstracts as without_name
