@@ -1,6 +1,6 @@
 -- What spells an expression is read (ISO/IEC 9899:1990, 6.3).
-use Rattle.std.proofs.Common.{◌≡◌, ◌⊎◌, inl, inr, refl, subst, ap, sym, ◌∙◌, ℕ, zero, suc, ◌+◌, ◌-◌, ◌<◌, ◌≤◌, max, nat_lt, Bool, true, false, ◌||◌, ◌&&◌, List, [], ◌∷◌, nat_eq, Option, Some, None, Ok, arith}
-use Rattle.std.proofs.lemmas.Bool.{lt-ltb, eq-eqb, and_from}
+use Rattle.std.proofs.Common.{◌≡◌, ◌⊎◌, inl, inr, refl, subst, ap, sym, ◌∙◌, ℕ, zero, suc, ◌+◌, ◌-◌, ◌<◌, ◌≤◌, max, nat_lt, Bool, true, false, ◌||◌, List, [], ◌∷◌, nat_eq, Option, Some, None, Ok, arith}
+use Rattle.std.proofs.lemmas.Bool.{lt-ltb}
 use borrow.Author.Tests.{ltb-false}
 use Rattle.c_tokens.specs.declared.token.Key.TheVariants as key
 use Rattle.c_tokens.specs.declared.token.Punct.{Punct}
@@ -14,7 +14,6 @@ use Rattle.c_forms.specs.declared.operators.UnaryOperator.TheVariants as unary
 use Rattle.c_forms.specs.declared.operators.BinaryOperator.TheVariants as binary
 use Rattle.c_forms.specs.declared.operators.AssignmentOperator.TheVariants as assignment
 use Rattle.c_forms.specs.declared.pieces.Event.TheVariants as event
-use Rattle.c_forms.specs.declared.pieces.Sort.{Sort}
 use Rattle.c_forms.specs.declared.pieces.Sort.TheVariants as s
 use Rattle.c_forms.specs.declared.pieces.Piece.{Piece}
 use Rattle.c_forms.specs.declared.forms.Form.{Form}
@@ -36,18 +35,18 @@ use Rattle.c_syntax.specs.Reading.{Parts, nothing, one, node, deeper as deeper_o
 use Rattle.c_syntax.specs.Grammar.{Standing, standing, is_sign, begins, left_level, after_first, after_paren, may_follow, tight, whole, type_or, entered, sized, sized_opened, begun_by, primary, expression, opened, parenthesized, climb}
 use Rattle.c_syntax.specs.Spells.{Spelling, Is, Matches, Levels, parts_spelled, IsNode, Wraps, IsLiteral, Parted, Chain}
 use Rattle.c_spelled.specs.Fitting.{reads, follows, fitting, blank, needs, bound}
-use Rattle.c_spelled.specs.Operators.{is_apt, unapt, loose, prefix, operands_fit}
-use Rattle.c_spelled.proofs.Off.{Off, on_here, off, off_both, off_left}
+use Rattle.c_spelled.specs.Operators.{unapt, loose, prefix, operands_fit}
+use Rattle.c_spelled.proofs.Off.{Off, on_here, off, off_both}
 use Rattle.c_spelled.proofs.Opens.{starts_so}
 use Rattle.c_spelled.proofs.Begins.{AllBegin}
 use Rattle.c_spelled.proofs.Groups.{Got}
 use Rattle.c_spelled.proofs.Pieces.{AllRead, is_it}
 use Rattle.c_spelled.proofs.Shapes.{is_punct}
 use Rattle.c_spelled.proofs.Nodes.{Room, off_within, whole_read, the_parts, complete_node}
-use Rattle.c_spelled.proofs.Levels.{off_unapt, off_operator}
+use Rattle.c_spelled.proofs.Levels.{off_operator}
 use Rattle.c_spelled.proofs.Alone.{exp_is}
-use Rattle.c_spelled.proofs.Climb.{AllCalled, Lower, called_read, in_parens, Tight, tight_in, stand, stands_at, tight_at, Rises, begin, longer, finish, ends_at}
-use Rattle.c_spelled.proofs.Operands.{held_so, no_string, apt_so, EndOff, end_off, opened_head, Enters, RisesExp}
+use Rattle.c_spelled.proofs.Climb.{AllCalled, Lower, called_read, in_parens, Tight, stand, stands_at, tight_at, Rises, begin, longer, finish, ends_at}
+use Rattle.c_spelled.proofs.Operands.{held_so, no_string, apt_so, EndOff, end_off, Enters, RisesExp}
 
 module _ (body : Body) (d top : ℕ) (w : List Shape) (levels : Type 0) (room : Room levels d top) (under : top ≤ d) (deeper inner : Spelling) (part : Parts)
     (DB : AllBegin w deeper) (IB : AllBegin w inner) (DC : AllCalled body d top w deeper) (IE : AllRead body d top w 1 inner part) (IL : (least : ℕ) (t : Plain) (i j : Spot) → inner s.Literal least t i j → IsLiteral w t i)

@@ -1,20 +1,13 @@
 -- Each form of a sort with levels begins as its sort does.
-use Rattle.std.proofs.Common.{◌≡◌, refl, Bool, true, false}
-use Rattle.c_forms.specs.declared.pieces.Sort.{Sort}
+use Rattle.std.proofs.Common.{◌≡◌, refl, true}
 use Rattle.c_forms.specs.declared.pieces.Sort.TheVariants as s
 use Rattle.c_forms.specs.declared.operators.UnaryOperator.TheVariants as unary
 use Rattle.c_forms.specs.declared.operators.BinaryOperator.TheVariants as binary
-use Rattle.c_forms.specs.declared.operators.StorageClass.TheVariants as storage
-use Rattle.c_forms.specs.declared.operators.TypeQualifier.TheVariants as qualifier
-use Rattle.c_forms.specs.declared.operators.BasicType.TheVariants as basic
-use Rattle.c_forms.specs.declared.operators.StructOrUnion.TheVariants as group_of
 use Rattle.c_forms.specs.declared.forms.Form.{Form}
 use Rattle.c_forms.specs.declared.forms.Form.TheVariants as form
 use Rattle.c_forms.specs.declared.forms.ExpForm.TheVariants as exp
 use Rattle.c_forms.specs.declared.forms.SpecForm.TheVariants as spec
 use Rattle.c_forms.specs.declared.forms.DeclaratorForm.TheVariants as declarator
-use Rattle.c_forms.specs.declared.forms.ParamsForm.TheVariants as params
-use Rattle.c_forms.specs.declared.forms.InitForm.TheVariants as init
 use Rattle.c_forms.specs.declared.forms.StmtForm.TheVariants as stmt
 use Rattle.c_forms.specs.declared.forms.ItemForm.TheVariants as item
 use Rattle.c_forms.specs.declared.forms.TemplateForm.TheVariants as template

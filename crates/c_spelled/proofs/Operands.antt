@@ -1,52 +1,30 @@
 -- Where the operands of an expression end, and how one in parentheses is entered.
-use Rattle.std.proofs.Common.{◌≡◌, ◌⊎◌, inl, inr, refl, subst, ap, sym, ◌∙◌, ℕ, zero, suc, ◌+◌, ◌-◌, ◌<◌, ◌≤◌, max, nat_lt, Bool, true, false, ◌||◌, ◌&&◌, List, [], ◌∷◌, nat_eq, Option, Some, None, Ok, arith}
-use Rattle.std.proofs.lemmas.Bool.{lt-ltb, eq-eqb, and_from}
+use Rattle.std.proofs.Common.{◌≡◌, inl, inr, refl, subst, ap, sym, ◌∙◌, ℕ, ◌≤◌, nat_lt, Bool, true, false, ◌||◌, ◌&&◌, List, nat_eq, Option, Some, None, Ok, arith}
+use Rattle.std.proofs.lemmas.Bool.{eq-eqb, and_from}
 use borrow.Author.Tests.{ltb-false}
-use Rattle.c_tokens.specs.declared.token.Key.TheVariants as key
 use Rattle.c_tokens.specs.declared.token.Punct.{Punct}
 use Rattle.c_tokens.specs.declared.token.Punct.TheVariants as punct
 use Rattle.c_tokens.specs.declared.token.Shape.{Shape}
-use Rattle.c_tokens.specs.declared.token.Shape.TheVariants as shape
-use Rattle.c_tokens.specs.declared.class.Class.{Class}
 use Rattle.c_tokens.specs.declared.class.Class.TheVariants as class
 use Rattle.c_tokens.specs.ClassNumbers.{class_number}
-use Rattle.c_forms.specs.declared.operators.UnaryOperator.TheVariants as unary
-use Rattle.c_forms.specs.declared.operators.BinaryOperator.TheVariants as binary
-use Rattle.c_forms.specs.declared.operators.AssignmentOperator.TheVariants as assignment
 use Rattle.c_forms.specs.declared.pieces.Event.TheVariants as event
 use Rattle.c_forms.specs.declared.pieces.Sort.{Sort}
 use Rattle.c_forms.specs.declared.pieces.Sort.TheVariants as s
-use Rattle.c_forms.specs.declared.pieces.Piece.{Piece}
 use Rattle.c_forms.specs.declared.forms.Form.{Form}
-use Rattle.c_forms.specs.declared.forms.Form.TheVariants as form
-use Rattle.c_forms.specs.declared.forms.ExpForm.{ExpForm}
-use Rattle.c_forms.specs.declared.forms.ExpForm.TheVariants as exp
 use Rattle.c_forms.specs.Forests.{Plain}
-use Rattle.c_forms.specs.Forests as forests
 use Rattle.c_forms.specs.Measures.{level, pieces}
-use Rattle.c_forms.specs.Tokens.{begun, continued}
-use Rattle.c_forms.specs.Sets.{has, starts, goes_on, all_puncts}
-use Rattle.c_reader.specs.States.{State, class as class_in, happens}
-use Rattle.c_reader.specs.Tokens.{Spot, step, turned, raw_at, seen_at, class_at}
-use Rattle.c_reader.specs.Readers.{Reader, Found, Outcome, Body, Opened, Refuse, Look, Next, Fits, Change, read, below, and_then, choose, when}
+use Rattle.c_forms.specs.Sets.{has, starts, goes_on}
+use Rattle.c_reader.specs.States.{happens}
+use Rattle.c_reader.specs.Tokens.{Spot, step, turned, class_at}
+use Rattle.c_reader.specs.Readers.{Reader, Body, Refuse, Look, Fits, read, choose}
 use Rattle.c_reader.proofs.Local.{from}
-use Rattle.c_reader.proofs.Sets.{both, contrary, itself, single, only_single, same_class}
-use Rattle.c_syntax.specs.Allowed.{places}
-use Rattle.c_syntax.specs.Reading.{Parts, nothing, one, node, deeper as deeper_one, called, parts_of, is_starred, spanned, is_class, Usual, completed}
-use Rattle.c_syntax.specs.Grammar.{Standing, standing, is_sign, begins, left_level, after_first, after_paren, may_follow, tight, whole, type_or, entered, sized, sized_opened, begun_by, primary, expression, opened, parenthesized, climb}
-use Rattle.c_syntax.specs.Spells.{Spelling, Is, Matches, Levels, parts_spelled, IsNode, Wraps, IsLiteral, Parted, Chain}
-use Rattle.c_spelled.specs.Fitting.{reads, follows, fitting, blank, needs, bound}
-use Rattle.c_spelled.specs.Operators.{is_apt, unapt, loose, prefix, operands_fit}
-use Rattle.c_spelled.proofs.Off.{Off, on_here, off, off_both, off_left}
-use Rattle.c_spelled.proofs.Opens.{starts_so}
-use Rattle.c_spelled.proofs.Begins.{AllBegin}
-use Rattle.c_spelled.proofs.Groups.{Got}
-use Rattle.c_spelled.proofs.Pieces.{AllRead, is_it}
-use Rattle.c_spelled.proofs.Shapes.{is_punct}
-use Rattle.c_spelled.proofs.Nodes.{Room, off_within, whole_read, the_parts, complete_node}
-use Rattle.c_spelled.proofs.Levels.{off_unapt, off_operator}
-use Rattle.c_spelled.proofs.Alone.{exp_is}
-use Rattle.c_spelled.proofs.Climb.{AllCalled, Lower, called_read, in_parens, Tight, tight_in, stand, stands_at, tight_at, Rises, begin, longer, finish, ends_at}
+use Rattle.c_syntax.specs.Reading.{Parts}
+use Rattle.c_syntax.specs.Grammar.{Standing, standing, begins, left_level, primary, parenthesized}
+use Rattle.c_syntax.specs.Spells.{Is}
+use Rattle.c_spelled.specs.Operators.{is_apt, unapt, prefix}
+use Rattle.c_spelled.proofs.Off.{Off, off_left}
+use Rattle.c_spelled.proofs.Levels.{off_unapt}
+use Rattle.c_spelled.proofs.Climb.{Tight, tight_in, Rises}
 
 abbrev held_or : Shape → Option Shape → Shape
 held_or x (Some y) = y

@@ -15,11 +15,8 @@ use Rattle.c_forms.specs.declared.forms.Form.{Form}
 use Rattle.c_forms.specs.declared.forms.Form.TheVariants as form
 use Rattle.c_forms.specs.declared.forms.ParamsForm.TheVariants as params
 use Rattle.c_forms.specs.Forests as forests
-use Rattle.c_forms.specs.Measures.{level, pieces}
-use Rattle.c_forms.specs.Tokens.{continued}
-use Rattle.c_tokens.specs.declared.token.Punct.{Punct}
-use Rattle.c_syntax.specs.Grammar.{left_level}
-use Rattle.c_forms.specs.Sets.{Classes, has, within, apart, given, starts, element_starts, goes_on, goes_on_with, may_be_empty, is_optional, held_class, type_word, all_puncts}
+use Rattle.c_forms.specs.Measures.{pieces}
+use Rattle.c_forms.specs.Sets.{Classes, has, within, apart, given, starts, element_starts, goes_on, goes_on_with, may_be_empty, is_optional, held_class, type_word}
 use Rattle.c_reader.specs.States.{word_class}
 use Rattle.c_syntax.specs.Reading.{Before, Usual, Missing, is_missing, before_by, inside, is_absent, is_starred, spanned}
 use Rattle.c_syntax.specs.Allowed.{places}

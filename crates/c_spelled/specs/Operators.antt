@@ -1,28 +1,16 @@
 -- Which operators go on with a tree of a level. It is computed.
-use Rattle.std.specs.Prelude.{ℕ, zero, suc, ◌+◌, ◌-◌, max, Bool, true, false, not, ◌&&◌, ◌||◌, nat_eq, nat_lt, List, [], ◌∷◌, ◌++◌, Option, Some, None, if◌then◌else◌}
-use Rattle.c_tokens.specs.declared.class.Class.{Class}
+use Rattle.std.specs.Prelude.{ℕ, Bool, false, not, ◌&&◌, ◌||◌, nat_eq, nat_lt, List, [], ◌∷◌, ◌++◌, Option, Some, None}
 use Rattle.c_tokens.specs.declared.class.Class.TheVariants as class
 use Rattle.c_tokens.specs.ClassNumbers.{class_number}
-use Rattle.c_forms.specs.declared.pieces.Event.{Event}
-use Rattle.c_forms.specs.declared.pieces.Event.TheVariants as event
 use Rattle.c_forms.specs.declared.pieces.Sort.{Sort}
 use Rattle.c_forms.specs.declared.pieces.Sort.TheVariants as s
-use Rattle.c_forms.specs.declared.pieces.Repetition.{Repetition}
-use Rattle.c_forms.specs.declared.pieces.Repetition.TheVariants.{Optional, Due, All, Any, Many, Spliced, Ended}
 use Rattle.c_forms.specs.declared.pieces.Piece.{Piece}
-use Rattle.c_forms.specs.declared.pieces.Piece.TheVariants.{Token, Maybe, Own, One, Group, Then}
 use Rattle.c_forms.specs.declared.forms.Form.{Form}
-use Rattle.c_forms.specs.declared.forms.Form.TheVariants as form
-use Rattle.c_forms.specs.declared.forms.ParamsForm.TheVariants as params
-use Rattle.c_forms.specs.Forests as forests
 use Rattle.c_forms.specs.Measures.{level, pieces}
 use Rattle.c_forms.specs.Tokens.{continued}
 use Rattle.c_tokens.specs.declared.token.Punct.{Punct}
 use Rattle.c_syntax.specs.Grammar.{left_level}
-use Rattle.c_forms.specs.Sets.{Classes, has, within, apart, given, starts, element_starts, goes_on, goes_on_with, may_be_empty, is_optional, held_class, type_word, all_puncts}
-use Rattle.c_reader.specs.States.{word_class}
-use Rattle.c_syntax.specs.Reading.{Before, Usual, Missing, is_missing, before_by, inside, is_absent, is_starred, spanned}
-use Rattle.c_syntax.specs.Allowed.{places}
+use Rattle.c_forms.specs.Sets.{Classes, within, given, starts, goes_on, all_puncts}
 use Rattle.c_spelled.specs.Fitting.{reads, follows, fitting}
 
 abbrev pub is_tight : ℕ → Option Form → Bool
