@@ -1,5 +1,5 @@
 -- Readers that take a token, and loops of those.
-use Rattle.std.proofs.Common.{◌≡◌, ◌⊎◌, inl, inr, refl, subst, ap, sym, ◌∙◌, ℕ, zero, suc, ◌+◌, ◌-◌, ◌<◌, ◌≤◌, nat_lt, Bool, true, false, List, length, Option, Some, None, Ok, Err, arith}
+use Rattle.std.proofs.Common.{◌≡◌, ◌⊎◌, inl, inr, refl, subst, ap, sym, ◌∙◌, ℕ, zero, suc, ◌+◌, ◌-◌, ◌<◌, ◌≤◌, Bool, true, false, List, length, Option, Some, None, Ok, Err, arith}
 use Rattle.std.proofs.lemmas.Bool.{cases_lt}
 use Rattle.std.proofs.lemmas.List.{get_or_past}
 use Rattle.c_tokens.specs.declared.token.Shape.{Shape}
@@ -9,7 +9,7 @@ use Rattle.c_tokens.specs.ClassNumbers.{class_number}
 use Rattle.c_tokens.specs.ClassOf.{class_of}
 use Rattle.c_reader.specs.States.{Seen, seen, happens, noted}
 use Rattle.c_reader.specs.Tokens.{Spot, step, turned, seen_at}
-use Rattle.c_reader.specs.Readers.{Input, Reader, Outcome, Turn, More, Last, Rule, Body, Found, Give, Refuse, Look, Next, Pick, Note, Bind, Fits, Call, Loop, Ask, Change, read, below, pick, when, and_then, after, choose, here, turn_while, repeat}
+use Rattle.c_reader.specs.Readers.{Input, Reader, Outcome, Turn, More, Last, Rule, Body, Give, Refuse, Look, Next, Pick, Note, Bind, Fits, Call, Loop, Ask, Change, read, below, pick, when, and_then, choose, here, turn_while, repeat}
 use Rattle.c_reader.proofs.Loops.{split, same_answer, same_pair, Both}
 use Rattle.c_reader.proofs.Bounds.{Bounded}
 use Rattle.c_reader.proofs.Repeats.{goes_on, ends_with, fails_with}

@@ -2,7 +2,7 @@
 use Rattle.std.proofs.Common.{ℕ, ◌+◌, ◌≤◌, length}
 use Rattle.c_reader.specs.States.{Seen}
 use Rattle.c_reader.specs.Tokens.{Spot}
-use Rattle.c_reader.specs.Readers.{Input, Reader, Turn, Rule, Body, Give, Refuse, Look, Next, Pick, Note, Bind, Fits, Call, Loop, Ask, Change, read}
+use Rattle.c_reader.specs.Readers.{Input, Reader, Turn, Body, Give, Refuse, Look, Next, Pick, Note, Bind, Fits, Call, Loop, Ask, Change, read}
 use Rattle.c_reader.proofs.Loops.{Shrinks}
 
 -- how many turns may be left, which is no more than the levels and the tokens together

@@ -1,10 +1,11 @@
 -- More levels change nothing but `TooDeep`.
-use Rattle.std.proofs.Common.{◌≡◌, refl, ℕ, zero, suc, ◌+◌, ◌≤◌, nat_lt, Bool, true, false, length, Ok, Err, arith}
+use Rattle.std.proofs.Common.{◌≡◌, refl, sym, ◌∙◌, ℕ, zero, suc, ◌+◌, ◌≤◌, max, nat_lt, Bool, true, false, length, Ok, Err, arith}
 use Rattle.std.proofs.lemmas.Bool.{lt-ltb}
 use borrow.Author.Tests.{ltb-true}
 use Rattle.c_reader.specs.declared.refusal.Refusal.TheVariants.{Memory, Syntax, TooDeep}
 use Rattle.c_reader.specs.States.{happens, noted}
 use Rattle.c_reader.specs.Readers.{Input, Reader, Outcome, Turn, More, Last, Rule, Body, Found, Give, Refuse, Look, Next, Pick, Note, Bind, Fits, Call, Loop, Ask, Change, run, read, below, pick, when, and_then, after, loop, here, next, change}
+use Rattle.c_reader.proofs.Loops.{answers, same_answer, same_place}
 
 -- the second is the first, if that is not for lack of levels
 abbrev pub Deeper : {A : Type 0} → Outcome A → Outcome A → Type 0
@@ -57,6 +58,12 @@ module _ (B C : Rule → Input → Outcome Found) (d e : ℕ) (le : d ≤ e) (h 
   deeper_run (Change e r) i = deeper_run r (change (happens e) i)
   deeper_run (Loop f s) i = deeper_loop _ _ (λ s j. deeper_run (f s) j) (d + length i.tokens) (e + length i.tokens) s i (omega arith)
 
+pub risen : {A : Type 0} (o q : Outcome A) (a : A) (j : Input) → o ≡ Ok (a, j) → Deeper o q → q ≡ Ok (a, j)
+risen o q a j e h = rw e at h
+
+refused : {A : Type 0} (o q : Outcome A) (k : ℕ) → o ≡ Err (Syntax k) → Deeper o q → q ≡ Err (Syntax k)
+refused o q k e h = rw e at h
+
 module _ (body : Body) where
   pub deeper_below : (d e : ℕ) → d ≤ e → (n : Rule) (i : Input) → Deeper (below body d n i) (below body e n i)
   unfolding below
@@ -67,3 +74,16 @@ module _ (body : Body) where
   -- with more levels an answer stays, and so does a token that is refused
   pub deeper : {A : Type 0} (d e : ℕ) → d ≤ e → (r : Reader A) (i : Input) → Deeper (read body d r i) (read body e r i)
   deeper d e le r i = deeper_run (below body d) (below body e) d e le (deeper_below d e le) r i
+
+  pub still_ok : {A : Type 0} (d e : ℕ) → d ≤ e → (r : Reader A) (i : Input) (a : A) (j : Input) → read body d r i ≡ Ok (a, j) → read body e r i ≡ Ok (a, j)
+  still_ok d e le r i a j h = risen _ _ a j h (deeper d e le r i)
+
+  pub still_syntax : {A : Type 0} (d e : ℕ) → d ≤ e → (r : Reader A) (i : Input) (k : ℕ) → read body d r i ≡ Err (Syntax k) → read body e r i ≡ Err (Syntax k)
+  still_syntax d e le r i k h = refused _ _ k h (deeper d e le r i)
+
+  -- with whichever levels, there is one answer
+  pub one_answer : {A : Type 0} (d e : ℕ) (r : Reader A) (i : Input) (a b : A) (j k : Input) → read body d r i ≡ Ok (a, j) → read body e r i ≡ Ok (b, k) → (a ≡ b) × (j ≡ k)
+  one_answer d e r i a b j k h g =
+      let more : ℕ = max d e in
+      let same : answers a j ≡ answers b k = sym (still_ok d more (omega arith) r i a j h) ∙ still_ok e more (omega arith) r i b k g in
+      (same_answer a b j k same, same_place a b j k same)

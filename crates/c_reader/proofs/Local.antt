@@ -6,11 +6,9 @@ use Rattle.c_reader.specs.declared.refusal.Refusal.TheVariants.{Memory, Syntax, 
 use Rattle.c_reader.specs.States.{seen, happens, noted}
 use Rattle.c_reader.specs.Tokens.{Spot, step, turned, seen_at, Agree}
 use Rattle.c_reader.specs.Readers.{Input, Reader, Outcome, Turn, More, Last, Rule, Body, Found, Give, Refuse, Look, Next, Pick, Note, Bind, Fits, Call, Loop, Ask, Change, run, read, below, pick, when, and_then, after, loop}
+pub use Rattle.c_reader.specs.Laws.{from}
 use Rattle.c_reader.proofs.Loops.{Shrinks}
 use Rattle.c_reader.proofs.Bounds.{Tame}
-
-abbrev pub from : List Shape → Spot → Input
-from w i = record { tokens = w; at = i }
 
 -- where an outcome was reached
 abbrev pub reached : {A : Type 0} → Outcome A → ℕ
@@ -186,6 +184,9 @@ module _ (body : Body) (k : ℕ) (w v : List Shape) (agree : Agree k w v) (d : �
   same_run (Loop f s) i T = same_loop k w v _ _ (T.0.left d) (T.0.left d) (T.0.shrinks d) (T.0.shrinks d) (λ s j. onward body d w (f s) j) (λ s j. same_run (f s) j (T.1 s))
       (d + length w) (d + length v) s i (T.0.few d s (from w i)) (T.0.few d s (from v i))
 
+settled : {A : Type 0} (k : ℕ) (v : List Shape) (o q : Outcome A) (a : A) (m : Spot) (w : List Shape) → o ≡ Ok (a, from w m) → m.place ≤ k → Same k v o q → q ≡ Ok (a, from v m)
+settled k v o q a m w e le h = (rw e at h) le
+
 module _ (body : Body) (bodies : (n : Rule) → Tame body (body n)) where
   same_below : (k : ℕ) (w v : List Shape) → Agree k w v → (d : ℕ) (n : Rule) (i : Spot) → Same k v (below body d n (from w i)) (below body d n (from v i))
   unfolding below
@@ -195,3 +196,7 @@ module _ (body : Body) (bodies : (n : Rule) → Tame body (body n)) where
   -- what was answered or refused depends on the tokens through the place that was come to alone
   pub local : {A : Type 0} (k : ℕ) (w v : List Shape) → Agree k w v → (d : ℕ) (r : Reader A) (i : Spot) → Tame body r → Same k v (read body d r (from w i)) (read body d r (from v i))
   local k w v a d r i T = same_run body k w v a d (same_below k w v a d) r i T
+
+  -- what was read of w is read of what is the same through the place after it
+  pub already : {A : Type 0} (d : ℕ) (r : Reader A) (w v : List Shape) (p : ℕ) (i m : Spot) (a : A) → Tame body r → read body d r (from w i) ≡ Ok (a, from w m) → m.place ≤ p → Agree p w v → read body d r (from v i) ≡ Ok (a, from v m)
+  already d r w v p i m a T e le agree = settled p v _ _ a m w e le (local p w v agree d r i T)

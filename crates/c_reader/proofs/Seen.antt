@@ -1,5 +1,6 @@
 -- How a token is seen in one state and in another.
-use Rattle.std.proofs.Common.{◌≡◌, ◌⊎◌, inl, inr, refl, ap, sym, ◌∙◌, ℕ, ◌<◌, not, Bool, true, false, ◌&&◌, nat_eq, lit<, arith}
+use Rattle.std.proofs.Common.{◌≡◌, ◌⊎◌, inl, inr, refl, ap, sym, ◌∙◌, ℕ, ◌<◌, not, Bool, true, false, ◌&&◌, ◌||◌, nat_eq, lit<, arith}
+use Rattle.std.proofs.lemmas.Bool.{or_parts}
 use Rattle.c_tokens.specs.declared.token.Key.{Key}
 use Rattle.c_tokens.specs.declared.token.Key.TheVariants as k
 use Rattle.c_tokens.specs.declared.token.Punct.{Punct}
@@ -14,8 +15,8 @@ use Rattle.c_tokens.specs.ClassOf.{class_of}
 use Rattle.c_tokens.proofs.ClassLimits.{class_of_common}
 use Rattle.c_forms.specs.declared.pieces.Event.TheVariants.{Enter}
 use Rattle.c_forms.specs.Sets.{Classes, has, type_word}
-use Rattle.c_reader.specs.States.{State, Seen, happens, is_type, class, seen, word_class}
-use Rattle.c_reader.proofs.Sets.{both, not_true, contrary, itself}
+use Rattle.c_reader.specs.States.{State, happens, is_type, class, seen, word_class}
+use Rattle.c_reader.proofs.Sets.{both, not_both, not_true, contrary}
 
 -- the class of a word that is a value
 abbrev pub word : ℕ
@@ -79,7 +80,6 @@ between_states s t x = elim (alike s x) [
   | inr a ↦ inr a.0
 ]
 
-
 -- a set that has both classes of words, or none of them, is the same in all states
 pub unseeing : (f : Classes) (s t : State) (x : Shape) → has f word ≡ has f type_word → has f (class s x) ≡ has f (class t x)
 unseeing f s t x B = one s ∙ sym (one t)
@@ -89,6 +89,16 @@ unseeing f s t x B = one s ∙ sym (one t)
       | inl e ↦ ap (has f) e
       | inr e ↦ ap (has f) e.1 ∙ sym B ∙ ap (has f) (sym e.0)
     ]
+
+-- whether a token that is written with this class may be seen as one of the set
+abbrev pub blur : Classes → ℕ → Bool
+blur f c = has f c || (nat_eq c word && has f type_word)
+
+pub blurred : (f : Classes) (s : State) (x : Shape) → blur f (written x) ≡ false → has f (class s x) ≡ false
+blurred f s x h = let b = or_parts (has f (written x)) (nat_eq (written x) word && has f type_word) h in elim (alike s x) [
+  | inl e ↦ ap (has f) e ∙ b.0
+  | inr e ↦ ap (has f) e.1 ∙ not_both (nat_eq (written x) word) (has f type_word) (ap (λ c. nat_eq c word) e.0) b.1
+]
 
 -- that a scope begins makes no word another
 pub entered_alike : (s : State) (x : Shape) → seen (happens Enter s) x ≡ seen s x
