@@ -83,11 +83,11 @@ module _ (d top : ℕ) (w : List Shape) (levels : Type 0) (room : Room levels d 
         | inl A ↦ let at : i' ≡ k = A.1.1 in
             let off_spec : has (starts s.Spec) (class_at w i) ≡ false = ap (has (starts s.Spec)) (sym (due_alike i.state (raw_at w i.place))) ∙ ap (λ k. has (starts s.Spec) (class_at w k)) at ∙ M.is_first.1.1.1 in
             let specs : Found = list_from i.place (none_at i.place) in
-            let R = items.function_read d top w levels room under deeper D i.place specs M.others k j (omega arith) M.are_others in
+            let R = items.function_read d top w levels room under deeper D true i.place specs M.others k j (omega arith) M.are_others in
             let first : M.first ≡ specs.tree = M.is_first.1.0 ∙ ap (λ (k : Spot). forests.node the_list (spanned i.place k.place) M.is_first.0) (sym at) ∙ ap (λ us. forests.node the_list (spanned i.place i.place) us) A.1.0 in
             let same : t ≡ forests.node the_function (spanned i.place j.place) (specs.tree ∷ M.others) = v ∙ ap (λ ps. forests.node the_function (spanned i.place j.place) ps) (M.value ∙ ap (λ t. t ∷ M.others) first) in
             same_got top w t (forests.node the_function (spanned i.place j.place) (specs.tree ∷ M.others)) j _ _
-            (items.at_external d top w levels room under deeper D i false off_spec ∙ ap (λ k. read body d (outer part i.place specs) (from w k)) at) same R
+            (items.at_external d top w levels room under deeper D i false off_spec ∙ ap (λ k. read body d (outer true part i.place specs) (from w k)) at) same R
         | inr C ↦ absurd (contrary (is_none (forest M.is_first.0)) none (chain_some (spelled 8 s.Spec 0) w None C.0 M.is_first.0 i' k C.1))
       ]
 
@@ -104,7 +104,7 @@ module _ (d top : ℕ) (w : List Shape) (levels : Type 0) (room : Room levels d 
             let out : Off set w k.place = off (starts s.Declarator) set w k.place refl (on_here (starts s.Declarator) w k head.0) in
             let S = items.specs_read d top w levels room under deeper D 8 us i k (C, M.is_first.1.1.1) (off_within (goes_on s.Spec 0) set w k.place refl out) in
             let specs : Found = list_from i.place (listed us S.0 k.place false) in
-            let R = items.function_read d top w levels room under deeper D i.place specs M.others k j S.1.0 M.are_others in
+            let R = items.function_read d top w levels room under deeper D false i.place specs M.others k j S.1.0 M.are_others in
             let same : t ≡ forests.node the_function (spanned i.place j.place) (specs.tree ∷ M.others) = v ∙ ap (λ ps. forests.node the_function (spanned i.place j.place) ps) (M.value ∙ ap (λ t. t ∷ M.others) M.is_first.1.0) in
             same_got top w t (forests.node the_function (spanned i.place j.place) (specs.tree ∷ M.others)) j _ _
             (items.at_external d top w levels room under deeper D i true begun.0
@@ -119,8 +119,8 @@ module _ (d top : ℕ) (w : List Shape) (levels : Type 0) (room : Room levels d 
 
   -- ---- declarations
 
-  declared : (t : Plain) (i j : Spot) → i.state.kept.is_function_due ≡ false → IsNode levels deeper (spelled 7) w s.Decl 0 t i j → Goal (forests.node declares (spanned i.place j.place) (t ∷ [])) i j
-  declared t i j flag N =
+  declared : (t : Plain) (i j : Spot) → IsNode levels deeper (spelled 7) w s.Decl 0 t i j → Goal (forests.node declares (spanned i.place j.place) (t ∷ [])) i j
+  declared t i j N =
       let e = decl_form t.form N.may in
       let X : Matches (spelled 7) w s.Decl form.Decl Usual (pieces form.Decl) N.parts i j = subst (λ f. Matches (parts_spelled (is_starred f) deeper (spelled 7)) w s.Decl f Usual (pieces f) N.parts i j) e N.matches in
       let k : Spot = X.place in
@@ -138,7 +138,6 @@ module _ (d top : ℕ) (w : List Shape) (levels : Type 0) (room : Room levels d 
       let Y = X.are_others in
       let m : Spot = Y.place in
       let vs : List Plain = Y.is_first.0 in
-      let flag_k : k.state.kept.is_function_due ≡ false = (group_same w (spelled 7) (in_place_same 7 levels deeper w D.same) All s.Spec 0 Usual us i k refl G).1 refl ∙ flag in
       let head : read body d (external part) (from w i) ≡ read body d (specified part i.place) (from w i) = items.at_external d top w levels room under deeper D i true begun.0 in
       let front : t ≡ forests.node form.Decl (spanned i.place j.place) (specs.tree ∷ (forests.node the_list (spanned k.place m.place) vs ∷ Y.others)) =
       N.value ∙ ap (λ f. forests.node f (spanned i.place j.place) N.parts) e ∙ ap (λ ps. forests.node form.Decl (spanned i.place j.place) ps) (X.value ∙ ap (λ t. t ∷ X.others) X.is_first.1.0 ∙ ap (λ ts. specs.tree ∷ ts) (Y.value ∙ ap (λ t. t ∷ Y.others) Y.is_first.1.0)) in
@@ -152,35 +151,31 @@ module _ (d top : ℕ) (w : List Shape) (levels : Type 0) (room : Room levels d 
             (head ∙ items.after_specs d top w levels room under deeper D i k specs true S.1.1 (is_it w (sign punct.Semicolon) k semicolon) ∙ ap (λ k'. read body d (declaration_of part i.place specs list) (from w k')) at)
             (ap (λ t. forests.node declares (spanned i.place j.place) (t ∷ [])) (front ∙ ap (λ l. forests.node form.Decl (spanned i.place j.place) (specs.tree ∷ (l ∷ Y.others))) last)) R
         | inr C ↦ let first = chain_begins w s.InitDeclarator (spelled 7 s.InitDeclarator 0) (items.sort_begins d top w levels room under deeper D 7 s.InitDeclarator 0 refl refl) (Some comma) C.0 vs k m C.1 in
-            let R = items.declarators_read d top w levels room under deeper D i.place specs vs Y.others k m j S.1.0 flag_k C Y.are_others in
+            let R = items.declarators_read d top w levels room under deeper D i.place specs vs Y.others k m j S.1.0 C Y.are_others in
             same_got top w (forests.node declares (spanned i.place j.place) (t ∷ [])) (forests.node declares (spanned i.place j.place) (forests.node form.Decl (spanned i.place j.place) (specs.tree ∷ (forests.node the_list (spanned k.place m.place) vs ∷ Y.others)) ∷ [])) j _ _
             (head ∙ items.after_specs d top w levels room under deeper D i k specs false S.1.1 (is_not w (sign punct.Semicolon) k (off (starts s.InitDeclarator) (class_number (sign punct.Semicolon) ∷ []) w k.place refl (on_here (starts s.InitDeclarator) w k first.0))))
             (ap (λ t. forests.node declares (spanned i.place j.place) (t ∷ [])) front) R
       ]
 
-  declaration_item : (b : Bool) (t : Plain) (i j : Spot) → has_no_specifiers t ≡ b → i.state.kept.is_function_due ≡ false → t.form ≡ declares → At_item b t i j → Goal t i j
-  declaration_item true t i j b flag e N = absurd (let f : false ≡ true = sym (ap (λ f. is_function_form f && is_none (in_first t.parts)) e) ∙ b in cc f)
-  declaration_item false t i j b flag e N =
+  declaration_item : (b : Bool) (t : Plain) (i j : Spot) → has_no_specifiers t ≡ b → t.form ≡ declares → At_item b t i j → Goal t i j
+  declaration_item true t i j b e N = absurd (let f : false ≡ true = sym (ap (λ f. is_function_form f && is_none (in_first t.parts)) e) ∙ b in cc f)
+  declaration_item false t i j b e N =
       let M : Matches (spelled 8) w s.Item declares Usual (pieces declares) N.parts i j = subst (λ f. Matches (parts_spelled (is_starred f) deeper (spelled 8)) w s.Item f Usual (pieces f) N.parts i j) e N.matches in
       let at : M.place ≡ j = M.are_others.1 in
       let same : t ≡ forests.node declares (spanned i.place j.place) (M.first ∷ []) = N.value ∙ ap (λ f. forests.node f (spanned i.place j.place) N.parts) e ∙ ap (λ ps. forests.node declares (spanned i.place j.place) ps) (M.value ∙ ap (λ ts. M.first ∷ ts) M.are_others.0) in
       same_got top w t (forests.node declares (spanned i.place j.place) (M.first ∷ [])) j _ _ refl same
-      (subst (λ j. Goal (forests.node declares (spanned i.place j.place) (M.first ∷ [])) i j) at (declared M.first i M.place flag (items.decl_node d top w levels room under deeper D M.first i M.place M.is_first)))
+      (subst (λ j. Goal (forests.node declares (spanned i.place j.place) (M.first ∷ [])) i j) at (declared M.first i M.place (items.decl_node d top w levels room under deeper D M.first i M.place M.is_first)))
 
-  pub item_read : (t : Plain) (i j : Spot) → i.state.kept.is_function_due ≡ false → InPlace places levels deeper w s.Item 0 t i j → Got (read body d item_reader (from w i)) top t w j
+  pub item_read : (t : Plain) (i j : Spot) → InPlace places levels deeper w s.Item 0 t i j → Got (read body d item_reader (from w i)) top t w j
   unfolding InPlace in_place
-  item_read t i j flag N = elim (item_is t.form N.may) [
+  item_read t i j N = elim (item_is t.form N.may) [
     | inl e ↦ function_item (has_no_specifiers t) t i j refl e N
-    | inr e ↦ declaration_item (has_no_specifiers t) t i j refl flag e N
+    | inr e ↦ declaration_item (has_no_specifiers t) t i j refl e N
   ]
 
--- how a state stands between external declarations: none is begun of which a function's declarator must be
-pub record Between (state : State) : Type 0 where
-  pub undue : state.kept.is_function_due ≡ false
-
 -- An external declaration that is spelled is read, with as many levels as it is deep, or more.
-pub complete_at : (e d : ℕ) (w : List Shape) → e ≤ d → (t : Plain) (i j : Spot) → Between i.state → Spells e w s.Item 0 t i j → Got (read body d item_reader (from w i)) e t w j
-complete_at e d w le t i j B A = item_read d e w (levels_of e) (room_of e d le) le (deeper_of e w) (deep e d w le) t i j B.undue (placed e w s.Item 0 t i j A)
+pub complete_at : (e d : ℕ) (w : List Shape) → e ≤ d → (t : Plain) (i j : Spot) → Spells e w s.Item 0 t i j → Got (read body d item_reader (from w i)) e t w j
+complete_at e d w le t i j A = item_read d e w (levels_of e) (room_of e d le) le (deeper_of e w) (deep e d w le) t i j (placed e w s.Item 0 t i j A)
 
-pub complete : (d : ℕ) (w : List Shape) (t : Plain) (state : State) (j : Spot) → Between state → Spells d w s.Item 0 t (spot 0 state) j → (x : Found) × ((read body d item_reader (from w (spot 0 state)) ≡ Ok (x, from w j)) × (x.tree ≡ t))
-complete d w t state j B A = let G = complete_at d d w (omega arith) t (spot 0 state) j B A in (record { tree = t; height = G.height }, (G.reads, refl))
+pub complete : (d : ℕ) (w : List Shape) (t : Plain) (state : State) (j : Spot) → Spells d w s.Item 0 t (spot 0 state) j → (x : Found) × ((read body d item_reader (from w (spot 0 state)) ≡ Ok (x, from w j)) × (x.tree ≡ t))
+complete d w t state j A = let G = complete_at d d w (omega arith) t (spot 0 state) j A in (record { tree = t; height = G.height }, (G.reads, refl))

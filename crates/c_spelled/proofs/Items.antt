@@ -86,9 +86,6 @@ module _ (d top : ℕ) (w : List Shape) (levels : Type 0) (room : Room levels d 
   abbrev IE : (n : ℕ) → AllRead body d top w 8 (spelled n) part
   IE n = in_place_read d top w levels room under deeper D 8 n
 
-  abbrev IS : (n : ℕ) → AllSame (spelled n)
-  IS n = in_place_same n levels deeper w D.same
-
   pub sort_begins : (n : ℕ) (due : Sort) (least : ℕ) → is_read due ≡ true → may_be_empty due ≡ false → (t : Plain) (i j : Spot) → spelled n due least t i j → (has (starts due) (class_at w i) ≡ true) × (i.place < j.place)
   sort_begins n due least r e t i j p = elim (IB n due least t i j r p) [ inl b ↦ b | inr x ↦ absurd (contrary (may_be_empty due) x.0 e) ]
 
@@ -110,13 +107,13 @@ module _ (d top : ℕ) (w : List Shape) (levels : Type 0) (room : Room levels d 
   at_external i b e = ap (λ b. read body d (choose b (specified part i.place) (unspecified part i.place)) (from w i)) e
 
   pub after_specs : (i k : Spot) (specs : Found) (b : Bool) → read body d (grouped All s.Spec (part s.Spec 0) Usual) (from w i) ≡ Ok (specs, from w k) → is_sign punct.Semicolon (seen_at w k) ≡ b
-      → read body d (specified part i.place) (from w i) ≡ read body d (choose b (declaration_of part i.place specs (list_from k.place (none_at k.place))) (outer part i.place specs)) (from w k)
-  after_specs i k specs b r e = ap (λ o. and_then o (λ specs j. read body d (Ask (λ j. Look (λ y. choose (is_sign punct.Semicolon y) (declaration_of part i.place specs (list_from j.place (none_at j.place))) (outer part i.place specs)))) j)) r
-      ∙ ap (λ b. read body d (choose b (declaration_of part i.place specs (list_from k.place (none_at k.place))) (outer part i.place specs)) (from w k)) e
+      → read body d (specified part i.place) (from w i) ≡ read body d (choose b (declaration_of part i.place specs (list_from k.place (none_at k.place))) (outer false part i.place specs)) (from w k)
+  after_specs i k specs b r e = ap (λ o. and_then o (λ specs j. read body d (Ask (λ j. Look (λ y. choose (is_sign punct.Semicolon y) (declaration_of part i.place specs (list_from j.place (none_at j.place))) (outer false part i.place specs)))) j)) r
+      ∙ ap (λ b. read body d (choose b (declaration_of part i.place specs (list_from k.place (none_at k.place))) (outer false part i.place specs)) (from w k)) e
 
-  at_outer : (o : ℕ) (specs x : Found) (k p : Spot) (b : Bool) → read body d (part s.Declarator 1) (from w k) ≡ Ok (x, from w p) → (p.state.kept.is_function_due || (is_function p.state && not (goes_on_declaring (seen_at w p)))) ≡ b
-      → read body d (outer part o specs) (from w k) ≡ read body d (choose b (function_from part o specs x) (declaration_from part o specs k.place x)) (from w p)
-  at_outer o specs x k p b r e = ap (λ o'. and_then o' (λ x j. read body d (outer_by part o specs k.place x) j)) r ∙ ap (λ b. read body d (choose b (function_from part o specs x) (declaration_from part o specs k.place x)) (from w p)) e
+  at_outer : (due : Bool) (o : ℕ) (specs x : Found) (k p : Spot) (b : Bool) → read body d (part s.Declarator 1) (from w k) ≡ Ok (x, from w p) → (due || (is_function p.state && not (goes_on_declaring (seen_at w p)))) ≡ b
+      → read body d (outer due part o specs) (from w k) ≡ read body d (choose b (function_from part o specs x) (declaration_from part o specs k.place x)) (from w p)
+  at_outer due o specs x k p b r e = ap (λ o'. and_then o' (λ x j. read body d (outer_by due part o specs k.place x) j)) r ∙ ap (λ b. read body d (choose b (function_from part o specs x) (declaration_from part o specs k.place x)) (from w p)) e
 
   -- ---- functions
 
@@ -125,9 +122,9 @@ module _ (d top : ℕ) (w : List Shape) (levels : Type 0) (room : Room levels d 
       (or_from (is_sign punct.Semicolon (seen_at w p)) _ (is_not w (sign punct.Semicolon) p (off_within (class_number (sign punct.Semicolon) ∷ []) declaring w p.place refl o))
       (is_not w (sign punct.Equal) p (off_within (class_number (sign punct.Equal) ∷ []) declaring w p.place refl o)))
 
-  pub function_read : (o : ℕ) (specs : Found) (others : List Plain) (k j : Spot) → specs.height ≤ top → Parted (spelled 8 s.Declarator 1) (λ t. Matches (spelled 8) w s.Item the_function (before_by (is_absent t)) after_head) others k j
-      → Got (read body d (outer part o specs) (from w k)) top (forests.node the_function (spanned o j.place) (specs.tree ∷ others)) w j
-  function_read o specs others k j low M =
+  pub function_read : (due : Bool) (o : ℕ) (specs : Found) (others : List Plain) (k j : Spot) → specs.height ≤ top → Parted (spelled 8 s.Declarator 1) (λ t. Matches (spelled 8) w s.Item the_function (before_by (is_absent t)) after_head) others k j
+      → Got (read body d (outer due part o specs) (from w k)) top (forests.node the_function (spanned o j.place) (specs.tree ∷ others)) w j
+  function_read due o specs others k j low M =
       let p : Spot = M.place in
       let begun : On (opens s.Item the_function after_head) w p.place = elim (starts_so w (spelled 8) (IB 8) s.Item the_function (before_by (is_absent M.first)) after_head M.others p j refl M.are_others) [
         | inl x ↦ record { state = x.state; isin = x.isin }
@@ -135,11 +132,11 @@ module _ (d top : ℕ) (w : List Shape) (levels : Type 0) (room : Room levels d 
       ] in
       let G = IE 8 s.Declarator 1 M.first k p refl (omega arith) M.is_first (off (opens s.Item the_function after_head) (goes_on s.Declarator 1) w p.place refl begun) in
       let x : Found = record { tree = M.first; height = G.height } in
-      let is : (p.state.kept.is_function_due || (is_function p.state && not (goes_on_declaring (seen_at w p)))) ≡ true =
-      or_right p.state.kept.is_function_due _ (and_from (is_function p.state) _ M.are_others.0 (ap not (not_declaring p (off (opens s.Item the_function after_head) declaring w p.place refl begun)))) in
+      let is : (due || (is_function p.state && not (goes_on_declaring (seen_at w p)))) ≡ true =
+      or_right due _ (and_from (is_function p.state) _ M.are_others.0 (ap not (not_declaring p (off (opens s.Item the_function after_head) declaring w p.place refl begun)))) in
       let P = the_parts body d top w levels room 8 deeper (spelled 8) part D.begins (IB 8) DE (IE 8) s.Item the_function after_head M.others p j refl (omega arith) refl (λ _. refl) M.are_others in
       let C = complete_node body d top w levels room 8 deeper (spelled 8) part D.begins (IB 8) DE (IE 8) s.Item the_function o (record { trees = specs.tree ∷ (M.first ∷ []); height = max specs.height G.height }) after_head M.others p j tt (omega (arith, low, G.low)) P in
-      same_got top w (forests.node the_function (spanned o j.place) (specs.tree ∷ others)) (forests.node the_function (spanned o j.place) (specs.tree ∷ (M.first ∷ M.others))) j _ _ (at_outer o specs x k p true G.reads is) (ap (λ ts. forests.node the_function (spanned o j.place) (specs.tree ∷ ts)) M.value) C
+      same_got top w (forests.node the_function (spanned o j.place) (specs.tree ∷ others)) (forests.node the_function (spanned o j.place) (specs.tree ∷ (M.first ∷ M.others))) j _ _ (at_outer due o specs x k p true G.reads is) (ap (λ ts. forests.node the_function (spanned o j.place) (specs.tree ∷ ts)) M.value) C
 
   -- ---- declarations
 
@@ -162,9 +159,9 @@ module _ (d top : ℕ) (w : List Shape) (levels : Type 0) (room : Room levels d 
   is_declaring p q h r = ap (λ x. goes_on_declaring (seen p.state x)) r ∙ h
 
   -- the declarators, from the first on
-  pub declarators_read : (o : ℕ) (specs : Found) (vs ts : List Plain) (k m j : Spot) → specs.height ≤ top → k.state.kept.is_function_due ≡ false → Elements (spelled 7 s.InitDeclarator 0) w (Some comma) vs k m → Matches (spelled 7) w s.Decl form.Decl Usual after_list ts m j
-      → Got (read body d (outer part o specs) (from w k)) top (forests.node declares (spanned o j.place) (forests.node form.Decl (spanned o j.place) (specs.tree ∷ (forests.node the_list (spanned k.place m.place) vs ∷ ts)) ∷ [])) w j
-  declarators_read o specs vs ts k m j low flag C M =
+  pub declarators_read : (o : ℕ) (specs : Found) (vs ts : List Plain) (k m j : Spot) → specs.height ≤ top → Elements (spelled 7 s.InitDeclarator 0) w (Some comma) vs k m → Matches (spelled 7) w s.Decl form.Decl Usual after_list ts m j
+      → Got (read body d (outer false part o specs) (from w k)) top (forests.node declares (spanned o j.place) (forests.node form.Decl (spanned o j.place) (specs.tree ∷ (forests.node the_list (spanned k.place m.place) vs ∷ ts)) ∷ [])) w j
+  declarators_read o specs vs ts k m j low C M =
       let semicolon : On (class_number (sign punct.Semicolon) ∷ []) w m.place = on_here (class_number (sign punct.Semicolon) ∷ []) w m (single (class_number (sign punct.Semicolon)) (class_at w m) M.0) in
       let H : Others body d top w s.InitDeclarator 0 (spelled 7 s.InitDeclarator 0) (part s.InitDeclarator 0) (sort_begins 7 s.InitDeclarator 0 refl refl) (sort_read 7 s.InitDeclarator 0 refl (omega arith)) (Spliced (Some comma) 0) vs k m =
       others_read body d top w s.InitDeclarator 0 (spelled 7 s.InitDeclarator 0) (part s.InitDeclarator 0) (sort_begins 7 s.InitDeclarator 0 refl refl) (sort_read 7 s.InitDeclarator 0 refl (omega arith)) (Spliced (Some comma) 0) (λ c h. h) refl vs k m C
@@ -189,15 +186,14 @@ module _ (d top : ℕ) (w : List Shape) (levels : Type 0) (room : Room levels d 
           | inr e ↦ is_declaring p punct.Comma refl (ap (raw_at w) b.same ∙ is_punct q.state (raw_at w q.place) punct.Comma (only_single (class_number comma) _ e))
         ]
       ] in
-      let flag_p : p.state.kept.is_function_due ≡ false = (IS 6 s.Declarator 1 X.first k p refl X.is_first).1 refl ∙ flag in
-      let no_function : (p.state.kept.is_function_due || (is_function p.state && not (goes_on_declaring (seen_at w p)))) ≡ false = or_from p.state.kept.is_function_due _ flag_p (no_and (is_function p.state) (goes_on_declaring (seen_at w p)) goes) in
+      let no_function : (false || (is_function p.state && not (goes_on_declaring (seen_at w p)))) ≡ false = no_and (is_function p.state) (goes_on_declaring (seen_at w p)) goes in
       let P = the_parts body d top w levels room 8 deeper (spelled 6) part D.begins (IB 6) DE (IE 6) s.InitDeclarator init_form rest X.others p q refl (omega arith) refl (off_within (follows s.InitDeclarator rest) (goes_on s.InitDeclarator 0) w q.place refl H.ends) X.are_others in
       let I = complete_node body d top w levels room 8 deeper (spelled 6) part D.begins (IB 6) DE (IE 6) s.InitDeclarator init_form k.place (one x) rest X.others p q tt G.low P in
       let tree : forests.node init_form (spanned k.place q.place) (X.first ∷ X.others) ≡ H.tree = ap (λ ps. forests.node init_form (spanned k.place q.place) ps) (sym X.value) ∙ ap (λ f. forests.node f (spanned k.place q.place) N.parts) (sym form_is) ∙ sym N.value in
       let R = H.reads (max 0 I.height) (omega (arith, I.low)) in
       let E = decl_end o specs (list_from k.place (listed vs R.height m.place false)) ts m j low R.low M in
       same_got top w _ _ j _ _
-      (at_outer o specs x k p false G.reads no_function
+      (at_outer false o specs x k p false G.reads no_function
       ∙ ap (λ o'. and_then o' (λ x j. and_then (read body d (others (Spliced (Some comma) 0) s.InitDeclarator (part s.InitDeclarator 0) (with_last (none_at k.place) x j.at.place)) j) (λ g j. read body d (declaration_of part o specs (list_from k.place g)) j)))
       (I.reads ∙ ap (λ t. Ok (record { tree = t; height = I.height }, from w q)) tree)
       ∙ ap (λ o'. and_then o' (λ g j. read body d (declaration_of part o specs (list_from k.place g)) j)) R.reads) refl E

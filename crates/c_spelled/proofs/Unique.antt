@@ -16,7 +16,7 @@ use Rattle.c_spelled.specs.Fitting.{is_read}
 use Rattle.c_spelled.proofs.Off.{Off}
 use Rattle.c_spelled.proofs.Groups.{Got}
 use Rattle.c_spelled.proofs.Depths.{spelled_read}
-use Rattle.c_spelled.proofs.Complete.{Between, complete_at}
+use Rattle.c_spelled.proofs.Complete.{complete_at}
 
 -- what is read twice is the same, and ends at the same place
 same_twice : (o : Outcome Found) (a b : ℕ) (w : List Shape) (t u : Plain) (j k : Spot) → Got o a t w j → Got o b u w k → (t ≡ u) × (j ≡ k)
@@ -26,8 +26,8 @@ same_twice o a b w t u j k G H = let both : Ok (record { tree = t; height = G.he
 )
 
 -- of an external declaration, however deep
-pub one_item : (d e : ℕ) (w : List Shape) (t u : Plain) (i j k : Spot) → Between i.state → Spells d w s.Item 0 t i j → Spells e w s.Item 0 u i k → (t ≡ u) × (j ≡ k)
-one_item d e w t u i j k B A C = same_twice (read body (max d e) item_reader (from w i)) d e w t u j k (complete_at d (max d e) w (omega arith) t i j B A) (complete_at e (max d e) w (omega arith) u i k B C)
+pub one_item : (d e : ℕ) (w : List Shape) (t u : Plain) (i j k : Spot) → Spells d w s.Item 0 t i j → Spells e w s.Item 0 u i k → (t ≡ u) × (j ≡ k)
+one_item d e w t u i j k A C = same_twice (read body (max d e) item_reader (from w i)) d e w t u j k (complete_at d (max d e) w (omega arith) t i j A) (complete_at e (max d e) w (omega arith) u i k C)
 
 -- and of any part that does not go on where it ends
 pub one_tree : (d e : ℕ) (w : List Shape) (due : Sort) (least : ℕ) (t u : Plain) (i j k : Spot) → is_read due ≡ true → Spells d w due least t i j → Spells e w due least u i k → Off (goes_on due least) w j.place → Off (goes_on due least) w k.place → (t ≡ u) × (j ≡ k)
