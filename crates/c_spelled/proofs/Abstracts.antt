@@ -118,7 +118,7 @@ module _ (body : Body) (d top : ℕ) (w : List Shape) (levels : Type 0) (room : 
       let X = M.are_others.1.1 in
       let S = group_same w deeper DS Optional s.Exp 3 Usual X.is_first.0 (turned (happens event.Aside) (step k)) X.place refl X.is_first.1.1 in
       by_operator (form.Declarator declarator.ArrayOf) punct.LeftBracket l m parts i j le high refl v o M (is_punct k.state (raw_at w k.place) punct.LeftBracket M.are_others.0) refl refl refl
-      (seal_so k.state (k.state.kept ∷ k.state.aside) refl X.place.state S.0 X.are_others.1.0) (sign_clear punct.LeftBracket M.first k M.are_others.0 refl) refl refl refl
+      (seal_so k.state (k.state.kept ∷ k.state.aside) refl X.place.state S X.are_others.1.0) (sign_clear punct.LeftBracket M.first k M.are_others.0 refl) refl refl refl
 
   abbrev after_open : Spot → Bool → Reader Standing
   after_open i b = choose b (standing 17 (parenthesized s.AbstractDeclarator)) (nameless_function s.AbstractDeclarator i.place)

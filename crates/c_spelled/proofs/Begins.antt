@@ -17,7 +17,7 @@ use Rattle.c_syntax.specs.Allowed.{places}
 use Rattle.c_syntax.specs.Reading.{Usual, is_absent, is_starred, spanned}
 use Rattle.c_syntax.specs.Spells.{Spelling, nothing_spelled, parts_spelled, IsNode, Wraps, wrapped_sort, may_be, AnyWord, At, InPlace, Spells}
 use Rattle.c_reader.proofs.Sets.{both, not_true, within_has, has_left, has_right}
-use Rattle.c_spelled.specs.Fitting.{is_read, is_nameless, opens, blank, is_calm, reads, begins_so, blank_fits, keeps, is_balanced}
+use Rattle.c_spelled.specs.Fitting.{is_read, is_nameless, opens, blank, is_calm, reads, begins_so, blank_fits, is_balanced}
 use Rattle.c_spelled.proofs.Opens.{Begun, starts_so}
 use Rattle.c_spelled.proofs.Rows.{has_row, rows}
 
@@ -53,7 +53,7 @@ row due f h = let a = both (reads due (pieces f)) _ h in let b = both (is_calm d
     record { reads = a.0; calm = b.0; opens = c.0; absent = λ e. let k = both (may_be_empty due) _ (subst (λ b. blank_fits due f b ≡ true) e c.1) in let l = both (is_calm due (pieces f)) _ k.1 in (k.0, name_of (is_nameless due) (is_absent (leaf f)) l.1) }
 
 pub row_of : (due : Sort) (f : Form) → has_row due ≡ true → may_be due f ≡ true → Row due f
-row_of due f h m = row due f (both (begins_so due f) _ (both (begins_so due f && is_balanced (keeps due) due 0 (pieces f)) _ (rows due f h m)).0).0
+row_of due f h m = row due f (both (begins_so due f) _ (both (begins_so due f && is_balanced 0 (pieces f)) _ (rows due f h m)).0).0
 
 module _ (levels : Type 0) (deeper inner : Spelling) (w : List Shape) (D : AllBegin w deeper) (I : AllBegin w inner) where
   pub node_begins : (due : Sort) (least : ℕ) (t : Plain) (i j : Spot) → has_row due ≡ true → IsNode levels deeper inner w due least t i j → Begun w due t i j

@@ -23,12 +23,11 @@ use Rattle.c_syntax.specs.Grammar.{sign, after_first, declaration_of, outer, spe
 use Rattle.c_syntax.specs.Spells.{Parted, IsList, IsGroup, started_by, has_no_specifiers, Spelling, Is, Matches, parts_spelled, IsNode, InPlace, Spells}
 use Rattle.c_spelled.proofs.Off.{Off, on_here, off}
 use Rattle.c_spelled.proofs.Begins.{AllBegin, in_place_begins}
-use Rattle.c_spelled.proofs.Balance.{in_place_same, group_same}
 use Rattle.c_spelled.proofs.Groups.{Got, listed}
 use Rattle.c_spelled.proofs.Pieces.{is_it, is_not}
 use Rattle.c_spelled.proofs.Nodes.{Room, off_within, same_got}
 use Rattle.c_spelled.proofs.Sorts.{Deep}
-use Rattle.c_forms.specs.declared.pieces.Repetition.TheVariants.{All, Any}
+use Rattle.c_forms.specs.declared.pieces.Repetition.TheVariants.{Any}
 use Rattle.c_forms.specs.declared.pieces.Piece.{Piece}
 use Rattle.c_forms.specs.declared.forms.ItemForm.TheVariants as item
 use Rattle.c_forms.specs.Forests.{forest}

@@ -119,7 +119,7 @@ module _ (body : Body) (d top : ℕ) (w : List Shape) (levels : Type 0) (room : 
       let X = M.are_others.1.1 in
       let S = group_same w deeper DS Optional s.Exp 3 Usual X.is_first.0 (turned (happens event.Aside) (step k)) X.place refl X.is_first.1.1 in
       by_operator (form.Declarator declarator.ArrayOf) punct.LeftBracket l m parts i j le high refl v o M (is_punct k.state (raw_at w k.place) punct.LeftBracket M.are_others.0) refl refl refl
-      (seal_so k.state (k.state.kept ∷ k.state.aside) refl X.place.state S.0 X.are_others.1.0) (sign_clear punct.LeftBracket M.first k M.are_others.0 refl) refl refl refl
+      (seal_so k.state (k.state.kept ∷ k.state.aside) refl X.place.state S X.are_others.1.0) (sign_clear punct.LeftBracket M.first k M.are_others.0 refl) refl refl refl
 
   function : (l m : ℕ) (parts : List Plain) (i j : Spot) → l ≤ m → m ≤ 2 → levels → Off (unapt s.Declarator 2) w j.place → Here (form.Declarator declarator.FunctionOf) (pieces (form.Declarator declarator.FunctionOf)) parts i j → Goal l m (form.Declarator declarator.FunctionOf) parts i j
   function l m parts i j le high v o M = elim (DT 2 M.first i M.place M.is_first) [

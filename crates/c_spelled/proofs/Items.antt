@@ -26,7 +26,6 @@ use Rattle.c_syntax.specs.Spells.{Elements, Parted, IsGroup, Spelling, Matches, 
 use Rattle.c_spelled.specs.Fitting.{is_read, need}
 use Rattle.c_spelled.proofs.Off.{Off, On, on_here, off}
 use Rattle.c_spelled.proofs.Begins.{AllBegin, in_place_begins}
-use Rattle.c_spelled.proofs.Balance.{AllSame, in_place_same}
 use Rattle.c_spelled.proofs.Groups.{Got, GotAll, listed, group_read, others_read, Others}
 use Rattle.c_spelled.proofs.Pieces.{AllRead, is_not}
 use Rattle.c_spelled.proofs.Nodes.{Room, off_within, same_got, the_parts, complete_node}

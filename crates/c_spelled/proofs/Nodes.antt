@@ -24,7 +24,7 @@ use Rattle.c_syntax.specs.Allowed.{places}
 use Rattle.c_syntax.specs.Reading.{Listed, Parts, nothing, node, joined, height_over, called, parts_by, parts_of, is_starred, spanned, Usual, pieces_in, completed}
 use Rattle.c_syntax.specs.Grammar.{charged, whole, leaf_if, is_word, is_value, identifier, declared_identifier, parameter_identifier, enumerator_identifier, literal}
 use Rattle.c_syntax.specs.Spells.{Spelling, Matches, parts_spelled, Levels, IsNode, may_be, AnyWord, ValueWord, IsLiteral, after_name}
-use Rattle.c_spelled.specs.Fitting.{reads, follows, fitting, is_leveled, is_typed_list, need, needs, bound, needs_so, begins_so, fits_so, keeps, is_balanced}
+use Rattle.c_spelled.specs.Fitting.{reads, follows, fitting, is_leveled, is_typed_list, need, needs, bound, needs_so, begins_so, fits_so, is_balanced}
 use Rattle.c_spelled.proofs.Off.{Off}
 use Rattle.c_spelled.proofs.Begins.{AllBegin, choose_begin, row}
 use Rattle.c_spelled.proofs.Groups.{Got}
@@ -60,7 +60,7 @@ skipped true b e h = absurd (cc e)
 skipped false b e h = h
 
 pub fits_of : (due : Sort) (f : Form) → has_row due ≡ true → is_leveled due ≡ false → is_typed_list f ≡ false → may_be due f ≡ true → Fits due f
-fits_of due f h l t m = let k' = both (begins_so due f && is_balanced (keeps due) due 0 (pieces f)) _ (rows due f h m) in let g : begins_so due f ≡ true = (both (begins_so due f) _ k'.0).0 in
+fits_of due f h l t m = let k' = both (begins_so due f && is_balanced 0 (pieces f)) _ (rows due f h m) in let g : begins_so due f ≡ true = (both (begins_so due f) _ k'.0).0 in
     let a = both (fits_so due f) _ (skipped (is_typed_list f) (fits_so due f && needs_so due f) t (skipped (is_leveled due) _ l k'.1)) in
     let e = both (fitting due f (pieces f)) _ a.0 in
     record { reads = (row due f g).reads; fits = e.0; ends = e.1; few = λ n low. few_so (is_starred f) (needs due (pieces f)) (need due) n a.1 low }

@@ -1,9 +1,8 @@
 -- What the pieces of a row must meet, so that what spells them is read. It is computed.
-use Rattle.std.specs.Prelude.{ℕ, zero, suc, ◌+◌, ◌-◌, max, Bool, true, false, not, ◌&&◌, ◌||◌, nat_eq, nat_lt, List, [], ◌∷◌, ◌++◌, Option, Some, None, if◌then◌else◌}
+use Rattle.std.specs.Prelude.{ℕ, suc, ◌+◌, ◌-◌, max, Bool, true, false, not, ◌&&◌, ◌||◌, nat_eq, nat_lt, List, [], ◌∷◌, ◌++◌, Option, Some, None, if◌then◌else◌}
 use Rattle.c_tokens.specs.declared.class.Class.{Class}
 use Rattle.c_tokens.specs.declared.class.Class.TheVariants as class
 use Rattle.c_tokens.specs.ClassNumbers.{class_number}
-use Rattle.c_forms.specs.declared.pieces.Event.{Event}
 use Rattle.c_forms.specs.declared.pieces.Event.TheVariants as event
 use Rattle.c_forms.specs.declared.pieces.Sort.{Sort}
 use Rattle.c_forms.specs.declared.pieces.Sort.TheVariants as s
@@ -247,48 +246,12 @@ needs_so due f = if is_starred f then nat_lt (needs due (pieces f)) (places + 1)
 
 -- ---- what is put aside is taken up again
 
--- the sorts that leave as it is whether a function is due
-abbrev pub keeps : Sort → Bool
-keeps s.Spec = true
-keeps s.PlainSpec = true
-keeps s.Qualifier = true
-keeps s.DeclaredId = true
-keeps s.Declarator = true
-keeps s.AbstractDeclarator = true
-keeps s.ParamDeclarator = true
-keeps s.MemberName = true
-keeps _ = false
-
-abbrev pub keeps_on : Event → Bool
-keeps_on event.Begin = false
-keeps_on event.Open = false
-keeps_on event.Shut = false
-keeps_on event.FunctionDue = false
-keeps_on event.Aside = false
-keeps_on event.Resume = false
-keeps_on event.Close = false
-keeps_on e = true
-
-abbrev pub changes_aside : Event → Bool
-changes_aside event.Aside = true
-changes_aside event.Resume = true
-changes_aside event.Close = true
-changes_aside e = false
-
--- whether something is aside, or nothing is to be kept, or is
-abbrev pub is_kept : ℕ → Bool → Bool → Bool
-is_kept (suc n) keep here = true
-is_kept zero keep here = not keep || here
-
-abbrev pub is_balanced : Bool → Sort → ℕ → List Piece → Bool
-is_balanced keep own n [] = nat_eq n 0
-is_balanced keep own n (Then event.Aside ∷ ps) = is_balanced keep own (suc n) ps
-is_balanced keep own n (Then event.Resume ∷ ps) = not (nat_eq n 0) && is_balanced keep own (n - 1) ps
-is_balanced keep own n (Then event.Close ∷ ps) = not (nat_eq n 0) && is_balanced keep own (n - 1) ps
-is_balanced keep own n (Then e ∷ ps) = is_kept n keep (keeps_on e) && is_balanced keep own n ps
-is_balanced keep own n (One due least ∷ ps) = is_kept n keep (keeps (inside own due)) && is_balanced keep own n ps
-is_balanced keep own n (Group r due least ∷ ps) = is_kept n keep (keeps due) && is_balanced keep own n ps
-is_balanced keep own n (p ∷ ps) = is_balanced keep own n ps
+abbrev pub is_balanced : ℕ → List Piece → Bool
+is_balanced n [] = nat_eq n 0
+is_balanced n (Then event.Aside ∷ ps) = is_balanced (suc n) ps
+is_balanced n (Then event.Resume ∷ ps) = not (nat_eq n 0) && is_balanced (n - 1) ps
+is_balanced n (Then event.Close ∷ ps) = not (nat_eq n 0) && is_balanced (n - 1) ps
+is_balanced n (p ∷ ps) = is_balanced n ps
 
 -- ---- rows
 
@@ -322,4 +285,4 @@ fits_so due f = fitting due f (pieces f) && within (follows due (pieces f)) (goe
 
 -- the row of a form that is read as a sort
 abbrev pub row_fits : Sort → Form → Bool
-row_fits due f = (begins_so due f && is_balanced (keeps due) due 0 (pieces f)) && (is_leveled due || (is_typed_list f || (fits_so due f && needs_so due f)))
+row_fits due f = (begins_so due f && is_balanced 0 (pieces f)) && (is_leveled due || (is_typed_list f || (fits_so due f && needs_so due f)))
