@@ -1,17 +1,14 @@
 -- Whether a tree is scoped does not depend on its spans.
-use Rattle.std.proofs.Common.{◌≡◌, ◌≢◌, refl, ap, sym, subst, ◌∙◌, Bool, true, false, ◌||◌, not, if◌then◌else◌, List, [], ◌∷◌, ◌++◌, Option, Some, None}
+use Rattle.std.proofs.Common.{◌≡◌, ◌≢◌, refl, ap, sym, ◌∙◌, Bool, true, false, ◌||◌, not, if◌then◌else◌, List, [], ◌∷◌, ◌++◌, Option, Some, None}
 use Rattle.c_tokens.specs.declared.span.Span.{Span}
-use Rattle.c_tokens.specs.declared.token.Word.{Word}
 use Rattle.c_forms.specs.declared.forms.Form.{Form}
 use Rattle.c_forms.specs.declared.forms.Form.TheVariants as form
 use Rattle.c_forms.specs.declared.forms.DeclaratorForm.TheVariants as declarator
 use Rattle.c_forms.specs.declared.forms.ParamsForm.TheVariants as params
-use Rattle.c_forms.specs.declared.forms.GroupForm.TheVariants as group
-use Rattle.c_forms.specs.Forests.{Plain, Forest, empty, tree}
+use Rattle.c_forms.specs.Forests.{Forest, empty, tree}
 use Rattle.c_forms.specs.Rules.{in_first, after_first, is_name}
 use Rattle.c_forms.specs.Rules as Rules
 use Rattle.scope_tables.specs.declared.table.WordClass.{WordClass}
-use Rattle.scope_tables.specs.declared.table.WordClass.TheVariants.{Value}
 use Rattle.scope_tables.specs.Frames.{Frame, class_named, class_of, entered, left, declared}
 use Rattle.scope_meanings.specs.declared.meaning.NameUse.{NameUse}
 use Rattle.scope_meanings.specs.declared.meaning.NameUse.TheVariants as naming
@@ -21,10 +18,9 @@ use Rattle.scope_meanings.specs.declared.meaning.Name.{Name}
 use Rattle.scope_meanings.specs.Meanings.{meaning, inside, declares, name_in, name_at, or_next, has_type, has_typedef, is_typedef, checked_if, in_param}
 use Rattle.scopes.specs.declared.event.Event.{Event}
 use Rattle.scopes.specs.declared.event.Event.TheVariants.{Enter, Leave, Must, Declare}
-use Rattle.scopes.specs.Events.{in_order, scope, at_identifier, checked, declared_as, redeclared, words, words_by, words_of_params, beside_at, beside_name, by_meaning, at_node, each, events, function, name_checked, body}
-use Rattle.scopes.specs.Events as Events
+use Rattle.scopes.specs.Events.{declared_as, words, words_by, words_of_params, beside_at, beside_name}
 use Rattle.scopes.specs.Settling.{Settled, Scoped, Clashes, settled, is_same}
-use Rattle.spelled_scopes.specs.Agreement.{no_span, unspanned, Alike}
+use Rattle.spelled_scopes.specs.Agreement.{no_span, unspanned}
 
 -- ---- events without spans
 

@@ -1,5 +1,5 @@
 -- The words that a function's body begins with are only declared.
-use Rattle.std.proofs.Common.{◌≡◌, refl, ap, sym, subst, ◌∙◌, Bool, true, false, if◌then◌else◌, List, [], ◌∷◌, ◌++◌, Option, Some, None}
+use Rattle.std.proofs.Common.{◌≡◌, refl, ap, sym, ◌∙◌, Bool, true, false, if◌then◌else◌, List, [], ◌++◌, Option, Some, None}
 use Rattle.c_tokens.specs.declared.token.Word.{Word}
 use Rattle.c_forms.specs.declared.forms.Form.{Form}
 use Rattle.c_forms.specs.declared.forms.Form.TheVariants as form
@@ -9,7 +9,6 @@ use Rattle.c_forms.specs.Forests.{Forest, empty, tree}
 use Rattle.c_forms.specs.Rules.{is_name, after_first}
 use Rattle.c_reader.specs.States.{Entry}
 use Rattle.scope_tables.specs.declared.table.WordClass.{WordClass}
-use Rattle.scope_tables.specs.declared.table.WordClass.TheVariants.{Value}
 use Rattle.scope_meanings.specs.declared.meaning.NameUse.{NameUse}
 use Rattle.scope_meanings.specs.declared.meaning.NameUse.TheVariants as naming
 use Rattle.scope_meanings.specs.declared.meaning.Meaning.{Meaning}
