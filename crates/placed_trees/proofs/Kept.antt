@@ -1,5 +1,5 @@
 -- What does not change with the spans of trees: sizes, heights, which rules their nodes break, and which trees are the same.
-use Rattle.std.proofs.Common.{◌≡◌, refl, ap, sym, ◌∙◌, ℕ, ◌+◌, max, Bool, true, false, ◌&&◌, ◌||◌, not, nat_lt, if◌then◌else◌, List, [], ◌∷◌, Option, Some, None}
+use Rattle.std.proofs.Common.{◌≡◌, refl, ap, ◌∙◌, ℕ, ◌+◌, max, Bool, true, false, ◌&&◌, ◌||◌, not, nat_lt, if◌then◌else◌, List, [], ◌∷◌, Option, Some, None}
 use Rattle.c_tokens.specs.declared.span.Span.{Span}
 use Rattle.c_forms.specs.declared.pieces.Sort.{Sort}
 use Rattle.c_forms.specs.declared.pieces.Sort.TheVariants as sort
@@ -25,7 +25,7 @@ use Rattle.c_forms.specs.declared.forms.GroupForm.{GroupForm}
 use Rattle.c_forms.specs.declared.forms.GroupForm.TheVariants as group
 use Rattle.c_forms.specs.declared.rules.Rule.{Rule}
 use Rattle.c_forms.specs.declared.rules.Rule.TheVariants as rule
-use Rattle.c_forms.specs.Forests.{Plain, Forest, empty, tree}
+use Rattle.c_forms.specs.Forests.{Forest, empty, tree}
 use Rattle.c_forms.specs.Opens.{last_opens}
 use Rattle.c_forms.specs.Measures.{weight, star, is_plain, ends_as_last_part, pieces}
 use Rattle.c_forms.specs.Places.{stands, joins}

@@ -3,13 +3,13 @@ use Rattle.std.proofs.Common.{◌≡◌, ◌+◌, ◌≤◌, refl, ap, sym, subs
 use Rattle.c_tokens.specs.declared.span.Span.{Span}
 use Rattle.c_tokens.specs.declared.token.Token.{Token}
 use Rattle.c_forms.specs.Measures.{weight, star, is_plain}
-use Rattle.c_forms.specs.Forests.{Plain, Forest, empty, tree, forest, node}
+use Rattle.c_forms.specs.Forests.{Plain, tree, forest}
 use Rattle.c_forms.specs.Rules.{is_right}
 use Rattle.c_forms.specs.Equal.{one_form}
 use Rattle.c_trees.specs.Same.{same_tree}
-use Rattle.c_trees.specs.Counts.{count, count_tree, high, high_tree, pure, pure_tree}
+use Rattle.c_trees.specs.Counts.{count_tree, high, high_tree, pure_tree}
 use Rattle.c_trees.specs.Valid.{valid, valid_tree}
-use Rattle.placed_trees.specs.Placing.{respanned, respanned_tree, placed, placed_span}
+use Rattle.placed_trees.specs.Placing.{respanned, placed, placed_span}
 use Rattle.placed_trees.proofs.Kept.{count_kept, high_kept, pure_kept, right_kept, valid_kept, same_kept, respanned_twice}
 
 -- ---- trees side by side

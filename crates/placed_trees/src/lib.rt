@@ -2,5 +2,7 @@
 #![tactic(auto)]
 
 mod placing;
+#[cfg(test)]
+mod tests;
 
 pub use placing::placed;

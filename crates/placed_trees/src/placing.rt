@@ -16,12 +16,7 @@ pub fn placed(alloc: Global, tree: Tree, tokens: &[Token]) -> Result<Tree, Memor
 }
 
 #[cycle(placed)]
-#[tactic(auto, using(
-    c_trees::specs::Depths::most_deep,
-    crate::proofs::Laws::placed_low,
-    crate::proofs::Laws::placed_right,
-    crate::proofs::Laws::placed_parts
-))]
+#[tactic(auto, using(c_trees::specs::Depths::most_deep, crate::proofs::Laws::placed_low, crate::proofs::Laws::placed_right, crate::proofs::Laws::placed_parts))]
 fn placed_tree(alloc: Global, tree: &Tree, tokens: &[Token]) -> Result<Tree, Memory>
     ensures { IfOk result (λ made. made ≡ placed tokens.now tree.now) }
 {

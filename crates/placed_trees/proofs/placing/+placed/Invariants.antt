@@ -1,4 +1,4 @@
-use Rattle.std.proofs.Common.{◌≡◌, ◌+◌, ◌*◌, ◌++◌, map, take}
+use Rattle.std.proofs.Common.{◌≡◌, ◌+◌, ◌*◌, map, take}
 use denote.Param.Weighed.{most}
 use Rattle.c_trees.specs.Deep.{deep_tree}
 use Rattle.placed_trees.specs.Placing.{placed}
