@@ -31,6 +31,7 @@ use Rattle.c_forms.specs.Measures.{weight, star, is_plain, ends_as_last_part, pi
 use Rattle.c_forms.specs.Places.{stands, joins}
 use Rattle.c_forms.specs.Fits.{number, all_stand, all_join, elements, is_single, is_spliced, least_of, is_list_of, fits}
 use Rattle.c_forms.specs.Rules.{is_none, in_first, after_first, is_type, is_sole, one_if, types, has_sole, are_specifiers, is_absent, is_name, names, named_at, has_function, function_at, has_ids, first_opens, is_decl, ordered, unless, in_spec, in_declarator, in_if, in_stmt, in_item, in_template, in_meta_stmt, in_group, among_rules, broken, is_nothing, is_right}
+use Rattle.c_forms.specs.contracts.forms.FormEq.TheImpl.Laws.{laws-law}
 use Rattle.c_forms.specs.Equal.{one_form}
 use Rattle.c_trees.specs.Same.{same}
 use Rattle.c_trees.specs.Counts.{count, high, pure}
@@ -285,6 +286,13 @@ same_right g empty empty = refl
 same_right g empty (tree h r qs others) = refl
 same_right g (tree f s ps rest) empty = refl
 same_right g (tree f s ps rest) (tree h r qs others) = and_same (one_form f h && same ps (respanned g qs)) (one_form f h && same ps qs) (same rest (respanned g others)) (same rest others) (ap (λ b. one_form f h && b) (same_right g ps qs)) (same_right g rest others)
+
+same_self : (t : Forest) → same t t ≡ true
+same_self empty = refl
+same_self (tree f s ps rest) = and_same (one_form f f && same ps ps) true (same rest rest) true (and_same (one_form f f) true (same ps ps) true (laws-law.refl f) (same_self ps)) (same_self rest)
+
+pub same_as_before : (g : Span → Span) (t : Forest) → same (respanned g t) t ≡ true
+same_as_before g t = same_left g t t ∙ same_self t
 
 pub same_kept : (g h : Span → Span) (t u : Forest) → same (respanned g t) (respanned h u) ≡ same t u
 same_kept g h t u = same_left g t (respanned h u) ∙ same_right h t u

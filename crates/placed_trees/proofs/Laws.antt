@@ -5,12 +5,13 @@ use Rattle.c_tokens.specs.declared.token.Token.{Token}
 use Rattle.c_forms.specs.Measures.{weight, star, is_plain}
 use Rattle.c_forms.specs.Forests.{Plain, tree, forest}
 use Rattle.c_forms.specs.Rules.{is_right}
+use Rattle.c_forms.specs.contracts.forms.FormEq.TheImpl.Laws.{laws-law}
 use Rattle.c_forms.specs.Equal.{one_form}
-use Rattle.c_trees.specs.Same.{same_tree}
+use Rattle.c_trees.specs.Same.{same, same_tree}
 use Rattle.c_trees.specs.Counts.{count_tree, high, high_tree, pure_tree}
 use Rattle.c_trees.specs.Valid.{valid, valid_tree}
 use Rattle.placed_trees.specs.Placing.{respanned, placed, placed_span}
-use Rattle.placed_trees.proofs.Kept.{count_kept, high_kept, pure_kept, right_kept, valid_kept, same_kept, respanned_twice}
+use Rattle.placed_trees.proofs.Kept.{count_kept, high_kept, pure_kept, right_kept, valid_kept, same_as_before, same_kept, respanned_twice}
 
 -- ---- trees side by side
 
@@ -47,7 +48,11 @@ same_purity ts t = ap (λ b. is_plain t.form && b) (pure_kept (placed_span ts) t
 pub same_validity : (ts : List Token) (t : Plain) → valid_tree (placed ts t) ≡ valid_tree t
 same_validity ts t = ap (λ b. b && valid (respanned (placed_span ts) t.parts)) (right_kept (placed_span ts) t.form t.parts) ∙ ap (λ b. is_right t.form t.parts && b) (valid_kept (placed_span ts) t.parts)
 
--- it is the same as another where the other one was
+-- it is the same as the tree
+pub same_tree_as_before : (ts : List Token) (t : Plain) → same_tree (placed ts t) t ≡ true
+same_tree_as_before ts t = ap (λ b. b && same (respanned (placed_span ts) t.parts) t.parts) (laws-law.refl t.form) ∙ same_as_before (placed_span ts) t.parts
+
+-- two are the same where they were before
 pub same_sameness : (ts us : List Token) (t u : Plain) → same_tree (placed ts t) (placed us u) ≡ same_tree t u
 same_sameness ts us t u = ap (λ b. one_form t.form u.form && b) (same_kept (placed_span ts) (placed_span us) t.parts u.parts)
 
