@@ -1,4 +1,3 @@
-pub mod Starts
 pub mod Cursors
 pub mod Founds
 pub mod Codes

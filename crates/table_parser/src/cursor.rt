@@ -11,10 +11,10 @@ ghost use Rattle.c_reader.specs.declared.refusal.Refusal.TheVariants as refusal;
 ghost use Rattle.c_syntax.specs.Reading.{is_class};
 ghost use Rattle.table_parser.specs.Cursors.{shape_of, seen, onward, changed};
 
-use crate::decisions::holds;
 use c_forms::{Event, Form};
 use c_reader::Refusal;
 use c_tokens::{Class, Shape, Token};
+use form_decisions::holds;
 use reader_states::Attempt;
 use std::marker::Model;
 

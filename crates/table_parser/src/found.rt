@@ -8,11 +8,11 @@ ghost use Rattle.c_reader.specs.declared.refusal.Refusal.TheVariants as refusal;
 ghost use Rattle.c_syntax.specs.Reading as reading;
 ghost use Rattle.table_parser.specs.Founds.{Bounded, is_none};
 
-use crate::decisions::is_starred;
 use c_forms::{DeclaratorForm, Form};
 use c_reader::Refusal;
 use c_tokens::Span;
 use c_trees::{Parts, Tree};
+use form_decisions::is_starred;
 use std::alloc::Global;
 use std::marker::Model;
 

@@ -21,12 +21,11 @@ ghost use Rattle.table_parser.specs.Rights.{RightWhole};
 ghost use Rattle.table_parser.specs.Sound.{is_sound, is_token};
 
 use crate::cursor::Cursor;
-use crate::decisions::is_starred;
 use crate::found::{Found, Gathered, Listed, node};
-use crate::starts::{goes_on_with, may_begin, may_begin_element};
 use c_forms::{DeclaratorForm, Form, InitForm, Piece, Repetition, Sort, StmtForm};
 use c_reader::Refusal;
 use c_tokens::{Class, Punct};
+use form_decisions::{goes_on_with, is_starred, may_begin, may_begin_element};
 use form_rows::pieces;
 use std::alloc::Global;
 

@@ -7,12 +7,12 @@ ghost use Rattle.table_parser.specs.Cursors.{seen};
 ghost use Rattle.table_parser.specs.Founds.{Bounded};
 ghost use Rattle.table_parser.specs.Nests.{read};
 
-use crate::classes::{TYPE_WORD, WORD};
 use crate::cursor::{Cursor, Seen};
 use crate::found::Found;
 use c_forms::{Event, Form};
 use c_reader::Refusal;
 use c_tokens::Shape;
+use form_decisions::{TYPE_WORD, WORD};
 
 /// Whether a token is a word that is no type.
 pub fn is_value(token: Seen) -> bool

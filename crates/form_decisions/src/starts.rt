@@ -4,7 +4,7 @@ ghost use Rattle.std.specs.Prelude.{◌≡◌};
 ghost use Rattle.c_forms.specs.Fits.{is_spliced};
 ghost use Rattle.c_forms.specs.Sets as sets;
 ghost use Rattle.c_forms.specs.declared.pieces.Sort.TheVariants as sort;
-ghost use Rattle.table_parser.specs.Starts.{list_starts};
+ghost use Rattle.form_decisions.specs.Starts.{list_starts};
 
 use crate::classes::*;
 use c_forms::{Repetition, Sort};

@@ -156,7 +156,8 @@ pub(crate) const QUOTE_PARAM_MARK: u32 = 111;
 
 pub(crate) const QUOTE_MEMBER_MARK: u32 = 112;
 
-pub(crate) const WORD: u32 = 113;
+/// The class of a word that is none.
+pub const WORD: u32 = 113;
 
 pub(crate) const INT: u32 = 114;
 
@@ -202,7 +203,8 @@ pub(crate) const PARAM_LIST_HOLE: u32 = 135;
 
 pub(crate) const MEMBER_LIST_HOLE: u32 = 136;
 
-pub(crate) const TYPE_WORD: u32 = 3000;
+/// The class of a word that is a type where it stands.
+pub const TYPE_WORD: u32 = 3000;
 
 pub(crate) const EXP_CALL: u32 = 3005;
 

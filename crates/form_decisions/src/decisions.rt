@@ -7,7 +7,7 @@ ghost use Rattle.c_forms.specs.Tokens as tokens;
 ghost use Rattle.c_forms.specs.declared.pieces.Sort.TheVariants as sort;
 ghost use Rattle.c_syntax.specs.Grammar as grammar;
 ghost use Rattle.c_syntax.specs.Reading as reading;
-ghost use Rattle.table_parser.specs.Starts.{shape_classes};
+ghost use Rattle.form_decisions.specs.Starts.{shape_classes};
 
 use crate::classes::{TYPE_WORD, WORD};
 use c_forms::{
