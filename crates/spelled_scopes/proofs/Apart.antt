@@ -1,19 +1,18 @@
 -- What is put aside and taken up again, and scopes that are left again.
-use Rattle.std.proofs.Common.{◌≡◌, refl, ap, sym, subst, ◌∙◌, Bool, true, false, List, [], ◌∷◌, ◌++◌, if◌then◌else◌}
+use Rattle.std.proofs.Common.{◌≡◌, refl, ap, ◌∙◌, Bool, true, false, List, [], ◌∷◌, if◌then◌else◌}
 use Rattle.c_tokens.specs.declared.span.Span.{Span}
 use Rattle.c_tokens.specs.declared.token.Word.{Word}
 use Rattle.c_forms.specs.declared.pieces.Event.TheVariants as event
-use Rattle.c_reader.specs.States.{State, Kept, Entry, Edge, nothing_kept, happens, is_type, top, under, outside}
+use Rattle.c_reader.specs.States.{State, Entry, Edge, happens, is_type, top, under, outside}
 use Rattle.scope_tables.specs.declared.table.WordClass.{WordClass}
 use Rattle.scope_tables.specs.declared.table.WordClass.TheVariants.{TypeName, Value}
 use Rattle.scope_tables.specs.Frames.{Frame, class_named, class_of, left}
 use Rattle.scopes.specs.declared.event.Event.{Event}
-use Rattle.scopes.specs.declared.event.Event.TheVariants.{Enter, Leave, Must, Declare}
+use Rattle.scopes.specs.declared.event.Event.TheVariants.{Leave, Must}
 use Rattle.scopes.specs.Events.{scope}
 use Rattle.scopes.specs.Settling.{Settled, Scoped, Clashes, settled, is_same}
 use Rattle.spelled_scopes.specs.Meant.{frames, after_words, Runs}
 use Rattle.spelled_scopes.proofs.Frames.{meant, settled_on, words_left, words_outside}
-use Rattle.spelled_scopes.proofs.Laws.{Ends}
 
 -- ---- what is put aside
 

@@ -1,15 +1,14 @@
 -- Declarations, members, parameters and type names.
-use Rattle.std.proofs.Common.{◌≡◌, refl, ap, sym, subst, ◌∙◌, ℕ, Bool, true, false, not, ◌||◌, List, [], ◌∷◌, ◌++◌, append_assoc, Option, Some, None}
+use Rattle.std.proofs.Common.{◌≡◌, refl, ap, sym, subst, ◌∙◌, ℕ, Bool, true, false, not, ◌||◌, List, [], ◌∷◌, Option, Some, None}
 use Rattle.c_tokens.specs.declared.span.Span.{Span}
 use Rattle.c_tokens.specs.declared.token.Shape.{Shape}
 use Rattle.c_tokens.specs.declared.token.Punct.TheVariants as punct
 use Rattle.c_tokens.specs.declared.class.Class.TheVariants as class
 use Rattle.c_forms.specs.declared.pieces.Event.TheVariants as event
 use Rattle.c_forms.specs.declared.pieces.Repetition.{Repetition}
-use Rattle.c_forms.specs.declared.pieces.Repetition.TheVariants.{Optional, Due, All, Many, Spliced}
+use Rattle.c_forms.specs.declared.pieces.Repetition.TheVariants.{Due, All, Spliced}
 use Rattle.c_forms.specs.declared.pieces.Sort.{Sort}
 use Rattle.c_forms.specs.declared.pieces.Sort.TheVariants as s
-use Rattle.c_forms.specs.declared.forms.Form.{Form}
 use Rattle.c_forms.specs.declared.forms.Form.TheVariants as form
 use Rattle.c_forms.specs.declared.forms.GroupForm.TheVariants as group
 use Rattle.c_forms.specs.Forests.{Plain, forest, node}
@@ -18,25 +17,21 @@ use Rattle.c_forms.specs.Rules.{is_none}
 use Rattle.c_reader.specs.States.{Entry, State, AsValue, nothing_kept, happens, entry}
 use Rattle.c_reader.specs.States as States
 use Rattle.c_reader.specs.Tokens.{Spot, step, turned}
-use Rattle.c_syntax.specs.Reading.{Before, Usual, before_by, is_absent, inside, spanned, the_list}
+use Rattle.c_syntax.specs.Reading.{Before, Usual, before_by, is_absent, spanned, the_list}
 use Rattle.c_syntax.specs.Spells.{Spelling, Matches, IsGroup, IsList}
 use Rattle.scope_tables.specs.declared.table.WordClass.{WordClass}
-use Rattle.scope_tables.specs.declared.table.WordClass.TheVariants.{TypeName, Value}
-use Rattle.scope_tables.specs.Frames.{class_named}
 use Rattle.scope_meanings.specs.declared.meaning.NameUse.{NameUse}
 use Rattle.scope_meanings.specs.declared.meaning.NameUse.TheVariants as naming
 use Rattle.scope_meanings.specs.declared.meaning.Name.{Name}
-use Rattle.scope_meanings.specs.Meanings.{has_type, has_typedef, checked_if, name_in}
-use Rattle.scopes.specs.declared.event.Event.{Event}
-use Rattle.scopes.specs.declared.event.Event.TheVariants.{Declare}
+use Rattle.scope_meanings.specs.Meanings.{has_type, checked_if, name_in}
 use Rattle.scopes.specs.Events.{declared}
-use Rattle.scopes.specs.Settling.{Scoped, settled}
-use Rattle.spelled_scopes.specs.Meant.{frames, entry_as, after_words, Runs, events_in, words_in, Goes}
+use Rattle.scopes.specs.Settling.{Scoped}
+use Rattle.spelled_scopes.specs.Meant.{frames, entry_as, Runs, events_in, words_in, Goes}
 use Rattle.spelled_scopes.proofs.Apart.{apart}
-use Rattle.spelled_scopes.proofs.Frames.{entry_frames, entry_named}
-use Rattle.spelled_scopes.proofs.Inside.{inside_exp, inside_init, inside_abstract_declarator, inside_declarator, inside_param_declarator, inside_member_name}
-use Rattle.spelled_scopes.proofs.Joined.{append_nil, state_at, still, goes_on, runs_on, as_runs, over_parts, listed, grouped, moved}
-use Rattle.spelled_scopes.proofs.Laws.{Law, Says, Keeps, Lists, Specifies, Members, Inits, Names, Nears, number_or, specifies_none, specifies_on, members_none, members_on, inits_none, inits_on}
+use Rattle.spelled_scopes.proofs.Frames.{entry_frames}
+use Rattle.spelled_scopes.proofs.Inside.{inside_exp, inside_init, inside_abstract_declarator, inside_member_name}
+use Rattle.spelled_scopes.proofs.Joined.{state_at, goes_on, runs_on, as_runs, over_parts, listed, grouped}
+use Rattle.spelled_scopes.proofs.Laws.{Says, Keeps, Lists, Specifies, Members, Inits, Names, number_or, specifies_none, specifies_on, members_none, members_on, inits_none, inits_on}
 use Rattle.spelled_scopes.proofs.Quiet.{Lawful}
 use Rattle.spelled_scopes.proofs.Specifiers.{keeps_list}
 
@@ -164,5 +159,8 @@ module _ (w : List Shape) (S : Spelling) (lawful : Lawful S) (own : Sort) where
       let end : z ≡ j.state = state_at (turned (happens event.Begin) (step B.place)) j B.are_others.1.1.1 in
       let tree : ts ≡ q ∷ B.first ∷ [] = m.value ∙ ap (λ t. t ∷ m.others) a.value ∙ ap (λ l. q ∷ l) (B.value ∙ ap (λ l. B.first ∷ l) B.are_others.1.1.0) in
       let r = goes_on v (q ∷ []) (B.first ∷ []) i.state m.place.state B.place.state g n.0 in
-      subst (λ z. Goes u (node form.Member sp ts ∷ []) i.state z × (z.kept ≡ nothing_kept)) end (subst (λ ts. Goes u (node form.Member sp ts ∷ []) i.state z) (sym tree)
-      (over_parts (events_in v (q ∷ B.first ∷ [])) (words_in v (q ∷ B.first ∷ [])) i.state z (record { scoped = r.scoped; declared = r.declared; aside = r.aside })), refl)
+      subst (λ z. Goes u (node form.Member sp ts ∷ []) i.state z × (z.kept ≡ nothing_kept)) end (
+        subst (λ ts. Goes u (node form.Member sp ts ∷ []) i.state z) (sym tree)
+            (over_parts (events_in v (q ∷ B.first ∷ [])) (words_in v (q ∷ B.first ∷ [])) i.state z (record { scoped = r.scoped; declared = r.declared; aside = r.aside })),
+        refl,
+      )

@@ -1,7 +1,6 @@
 -- Declarators, and what stands next to their names.
-use Rattle.std.proofs.Common.{◌≡◌, refl, ap, sym, subst, ◌∙◌, ℕ, Bool, true, false, not, ◌||◌, if◌then◌else◌, List, [], ◌∷◌, ◌++◌, append_assoc, Option, Some, None}
+use Rattle.std.proofs.Common.{◌≡◌, refl, ap, sym, subst, ◌∙◌, ℕ, Bool, true, false, if◌then◌else◌, List, [], ◌∷◌, ◌++◌, Option, Some, None}
 use Rattle.c_tokens.specs.declared.span.Span.{Span}
-use Rattle.c_tokens.specs.declared.token.Word.{Word}
 use Rattle.c_tokens.specs.declared.token.Shape.{Shape}
 use Rattle.c_forms.specs.declared.pieces.Event.TheVariants as event
 use Rattle.c_forms.specs.declared.pieces.Repetition.TheVariants.{Optional, Many}
@@ -11,16 +10,14 @@ use Rattle.c_forms.specs.declared.forms.Form.{Form}
 use Rattle.c_forms.specs.declared.forms.Form.TheVariants as form
 use Rattle.c_forms.specs.declared.forms.DeclaratorForm.{DeclaratorForm}
 use Rattle.c_forms.specs.declared.forms.DeclaratorForm.TheVariants as declarator
-use Rattle.c_forms.specs.declared.forms.GroupForm.TheVariants as group
 use Rattle.c_forms.specs.Forests.{Plain, Forest, tree, forest, node}
 use Rattle.c_forms.specs.Measures.{pieces}
-use Rattle.c_forms.specs.Rules.{is_name, is_none}
-use Rattle.c_reader.specs.States.{Entry, Edge, State, Kept, Near, Bare, Other, Parameters as With, nothing_kept, happens, sealed, with_parameters, parameters, is_bare, innermost, top, under}
+use Rattle.c_forms.specs.Rules.{is_name}
+use Rattle.c_reader.specs.States.{Entry, Edge, State, Near, Bare, Other, Parameters as With, happens, sealed, with_parameters, parameters, is_bare, innermost, top, under}
 use Rattle.c_reader.specs.Tokens.{Spot, step, turned}
-use Rattle.c_syntax.specs.Reading.{Before, Usual, before_by, is_absent, inside, spanned, the_list}
+use Rattle.c_syntax.specs.Reading.{Before, Usual, inside, spanned, the_list}
 use Rattle.c_syntax.specs.Spells.{Spelling, Matches, IsGroup, IsList}
 use Rattle.scope_tables.specs.declared.table.WordClass.{WordClass}
-use Rattle.scope_tables.specs.Frames.{Frame}
 use Rattle.scope_meanings.specs.declared.meaning.NameUse.{NameUse}
 use Rattle.scope_meanings.specs.declared.meaning.NameUse.TheVariants as naming
 use Rattle.scope_meanings.specs.declared.meaning.Name.{Name}
@@ -30,13 +27,13 @@ use Rattle.scopes.specs.declared.event.Event.{Event}
 use Rattle.scopes.specs.Events.{checked, declared, beside_name, words_of_params}
 use Rattle.scopes.specs.Events as Events
 use Rattle.scopes.specs.Settling.{Scoped, settled}
-use Rattle.spelled_scopes.specs.Meant.{frames, after_words, Runs, events_in, words_in, Goes}
+use Rattle.spelled_scopes.specs.Meant.{frames, after_words, events_in, words_in, Goes}
 use Rattle.spelled_scopes.proofs.Apart.{apart, must_be_value, around, scope_settled}
 use Rattle.spelled_scopes.proofs.Frames.{words_innermost}
 use Rattle.spelled_scopes.proofs.Inside.{inside_declared_id, inside_params}
-use Rattle.spelled_scopes.proofs.Joined.{append_nil, state_at, goes_on, over_parts, moved, listed, grouped}
-use Rattle.spelled_scopes.proofs.Laws.{Law, Says, Keeps, Passes, passes_none, passes_on, Names, Nears, Named, Parameters, Ends, number_or, says_none, says_on}
-use Rattle.spelled_scopes.proofs.Quiet.{Lawful, quiet_list}
+use Rattle.spelled_scopes.proofs.Joined.{append_nil, state_at, goes_on, over_parts, listed, grouped}
+use Rattle.spelled_scopes.proofs.Laws.{Says, Keeps, Passes, passes_none, passes_on, Names, Nears, Named, Parameters, Ends, number_or, says_none, says_on}
+use Rattle.spelled_scopes.proofs.Quiet.{Lawful}
 
 -- ---- names
 
@@ -238,8 +235,8 @@ module _ (w : List Shape) (S : Spelling) (lawful : Lawful S) (own : Sort)
       let kept : top e.aside ≡ c.kept = ap top (P.aside refl) in
       let run : (u : NameUse) → Goes u (B.first ∷ []) c z = λ u. record {
         scoped = ap (λ es. settled es (frames c.entries)) (P.events u ∙ append_nil (Events.scope P.inner))
-        ∙ scope_settled P.inner ws c.is_late c.entries e.entries ends.last ends.scoped ends.same declared
-        ∙ ap (λ es. Scoped (frames es)) (sym back);
+            ∙ scope_settled P.inner ws c.is_late c.entries e.entries ends.last ends.scoped ends.same declared
+            ∙ ap (λ es. Scoped (frames es)) (sym back);
         declared = back ∙ ap (λ ws. after_words ws c.entries) (sym (P.no_words u));
         aside = ap under (P.aside refl);
       } in
@@ -257,11 +254,11 @@ module _ (w : List Shape) (S : Spelling) (lawful : Lawful S) (own : Sort)
         }),
         λ o. let x = a.1 o in record {
           words = with_words (top e.aside).near (innermost e.entries)
-          ∙ ap (λ k. if is_bare k.near then innermost e.entries else parameters k.near) kept
-          ∙ ap (λ b. if b then innermost e.entries else parameters c.kept.near) (x.bare ∙ sym (name_alone A.first (forest (B.first ∷ []))))
-          ∙ ap (λ l. if is_name (forest (A.first ∷ B.first ∷ [])) then l else parameters c.kept.near) inner
-          ∙ next_words (is_name (forest (A.first ∷ B.first ∷ []))) c.kept.near ws (beside_name (forest (A.first ∷ B.first ∷ []))) (x.words ∙ ap (λ ws. after_words ws []) (sym beside))
-          ∙ ap (λ ws. after_words ws []) (sym (append_nil (if is_name (forest (A.first ∷ B.first ∷ [])) then ws else beside_name (forest (A.first ∷ B.first ∷ [])))));
+              ∙ ap (λ k. if is_bare k.near then innermost e.entries else parameters k.near) kept
+              ∙ ap (λ b. if b then innermost e.entries else parameters c.kept.near) (x.bare ∙ sym (name_alone A.first (forest (B.first ∷ []))))
+              ∙ ap (λ l. if is_name (forest (A.first ∷ B.first ∷ [])) then l else parameters c.kept.near) inner
+              ∙ next_words (is_name (forest (A.first ∷ B.first ∷ []))) c.kept.near ws (beside_name (forest (A.first ∷ B.first ∷ []))) (x.words ∙ ap (λ ws. after_words ws []) (sym beside))
+              ∙ ap (λ ws. after_words ws []) (sym (append_nil (if is_name (forest (A.first ∷ B.first ∷ [])) then ws else beside_name (forest (A.first ∷ B.first ∷ [])))));
           bare = with_bare (top e.aside).near (innermost e.entries);
           called = x.called;
           is_called = or_next_none (name_in (forest (A.first ∷ B.first ∷ []))) ∙ name ∙ x.is_called;
@@ -270,16 +267,16 @@ module _ (w : List Shape) (S : Spelling) (lawful : Lawful S) (own : Sort)
 
   absent_says : (sp : Span) (ts : List Plain) (i j : Spot) → (own ≡ s.Declarator → ⊥) → Matches S w own (form.Declarator declarator.Absent) Usual (pieces (form.Declarator declarator.Absent)) ts i j → Has declarator.Absent sp ts i.state j.state
   absent_says sp ts i j n m = subst (λ z. Has declarator.Absent sp ts i.state z) (state_at i j m.1) (subst (λ ts. Has declarator.Absent sp ts i.state i.state) (sym m.0) (
-        names declarator.Absent sp [] i.state i.state (record {
-          silent = record { scoped = refl; declared = refl; aside = refl };
-          asked = λ h. record { scoped = refl; declared = refl; aside = refl };
-          has = refl;
-          typedef = refl;
-          name = refl;
-          at_first = λ h. refl;
-        }),
-        λ o. absurd (n o),
-      ))
+    names declarator.Absent sp [] i.state i.state (record {
+      silent = record { scoped = refl; declared = refl; aside = refl };
+      asked = λ h. record { scoped = refl; declared = refl; aside = refl };
+      has = refl;
+      typedef = refl;
+      name = refl;
+      at_first = λ h. refl;
+    }),
+    λ o. absurd (n o),
+  ))
 
   pub declarator_says : (f : DeclaratorForm) (sp : Span) (ts : List Plain) (i j : Spot) → (f ≡ declarator.Absent → own ≡ s.Declarator → ⊥) → Matches S w own (form.Declarator f) Usual (pieces (form.Declarator f)) ts i j → Has f sp ts i.state j.state
   declarator_says declarator.Named sp ts i j n m = named_says sp ts i j m

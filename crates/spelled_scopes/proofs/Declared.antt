@@ -1,5 +1,5 @@
 -- Declarations with their initializers, and parameters.
-use Rattle.std.proofs.Common.{◌≡◌, refl, ap, sym, subst, ◌∙◌, ℕ, Bool, true, false, not, ◌||◌, List, [], ◌∷◌, Option, Some, None}
+use Rattle.std.proofs.Common.{◌≡◌, refl, ap, sym, subst, ◌∙◌, ℕ, Bool, not, ◌||◌, List, [], ◌∷◌, Option, Some, None}
 use Rattle.c_tokens.specs.declared.span.Span.{Span}
 use Rattle.c_tokens.specs.declared.token.Shape.{Shape}
 use Rattle.c_tokens.specs.declared.token.Punct.TheVariants as punct
@@ -23,7 +23,6 @@ use Rattle.scope_tables.specs.declared.table.WordClass.TheVariants.{Value}
 use Rattle.scope_tables.specs.Frames.{class_named}
 use Rattle.scope_meanings.specs.declared.meaning.NameUse.{NameUse}
 use Rattle.scope_meanings.specs.declared.meaning.NameUse.TheVariants as naming
-use Rattle.scope_meanings.specs.declared.meaning.Name.{Name}
 use Rattle.scope_meanings.specs.Meanings.{has_type, has_typedef, name_in}
 use Rattle.spelled_scopes.specs.Meant.{entry_as, events_in, words_in, Goes}
 use Rattle.spelled_scopes.proofs.Declarations.{number_only, no_type, declaring, specs_say, inits_list}
@@ -78,8 +77,11 @@ module _ (w : List Shape) (S : Spelling) (lawful : Lawful S) (own : Sort) where
       let end : z ≡ j.state = state_at (turned (happens event.Begin) (step B.place)) j B.are_others.1.1.1 in
       let tree : ts ≡ q ∷ B.first ∷ [] = m.value ∙ ap (λ t. t ∷ m.others) a.value ∙ ap (λ l. q ∷ l) (B.value ∙ ap (λ l. B.first ∷ l) B.are_others.1.1.0) in
       let r = goes_on v (q ∷ []) (B.first ∷ []) i.state m.place.state B.place.state g n.0 in
-      subst (λ z. Goes u (node form.Decl sp ts ∷ []) i.state z × (z.kept ≡ nothing_kept)) end (subst (λ ts. Goes u (node form.Decl sp ts ∷ []) i.state z) (sym tree)
-      (over_parts (events_in v (q ∷ B.first ∷ [])) (words_in v (q ∷ B.first ∷ [])) i.state z (record { scoped = r.scoped; declared = r.declared; aside = r.aside })), refl)
+      subst (λ z. Goes u (node form.Decl sp ts ∷ []) i.state z × (z.kept ≡ nothing_kept)) end (
+        subst (λ ts. Goes u (node form.Decl sp ts ∷ []) i.state z) (sym tree)
+            (over_parts (events_in v (q ∷ B.first ∷ [])) (words_in v (q ∷ B.first ∷ [])) i.state z (record { scoped = r.scoped; declared = r.declared; aside = r.aside })),
+        refl,
+      )
 
   pub param_says : (sp : Span) (ts : List Plain) (i j : Spot) → Matches S w own form.Param Usual (pieces form.Param) ts i j → (u : NameUse) → Says u (node form.Param sp ts ∷ []) i.state j.state
   param_says sp ts i j m = λ u f.
@@ -98,5 +100,8 @@ module _ (w : List Shape) (S : Spelling) (lawful : Lawful S) (own : Sort) where
       let d : Goes v (B.first ∷ []) m.place.state z = declaring Value b B.first m.place.state B.place.state z n
       (no_type m.place.state.kept.has_type (has_type (forest a.trees)) (a.specifies.has ∙ ap (λ k. k.has_type || has_type (forest a.trees)) f)) entries refl in
       let tree : ts ≡ q ∷ B.first ∷ [] = m.value ∙ ap (λ t. t ∷ m.others) a.value ∙ ap (λ l. q ∷ l) (B.value ∙ ap (λ l. B.first ∷ l) B.are_others.1.1.0) in
-      subst (λ z. Goes u (node form.Param sp ts ∷ []) i.state z × (z.kept ≡ nothing_kept)) end (subst (λ ts. Goes u (node form.Param sp ts ∷ []) i.state z) (sym tree)
-      (over_parts (events_in v (q ∷ B.first ∷ [])) (words_in v (q ∷ B.first ∷ [])) i.state z (goes_on v (q ∷ []) (B.first ∷ []) i.state m.place.state z g d)), refl)
+      subst (λ z. Goes u (node form.Param sp ts ∷ []) i.state z × (z.kept ≡ nothing_kept)) end (
+        subst (λ ts. Goes u (node form.Param sp ts ∷ []) i.state z) (sym tree)
+            (over_parts (events_in v (q ∷ B.first ∷ [])) (words_in v (q ∷ B.first ∷ [])) i.state z (goes_on v (q ∷ []) (B.first ∷ []) i.state m.place.state z g d)),
+        refl,
+      )

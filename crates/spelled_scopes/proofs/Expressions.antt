@@ -1,5 +1,5 @@
 -- Expressions, initializers and statements without declarations of their own.
-use Rattle.std.proofs.Common.{◌≡◌, refl, ap, sym, subst, ◌∙◌, ℕ, Bool, true, false, List, [], ◌∷◌, ◌++◌, Option, Some, None}
+use Rattle.std.proofs.Common.{◌≡◌, refl, ap, sym, subst, ◌∙◌, true, List, [], ◌∷◌, ◌++◌, None}
 use Rattle.c_tokens.specs.declared.span.Span.{Span}
 use Rattle.c_tokens.specs.declared.token.Word.{Word}
 use Rattle.c_tokens.specs.declared.token.Shape.{Shape}
@@ -10,7 +10,6 @@ use Rattle.c_forms.specs.declared.pieces.Event.TheVariants as event
 use Rattle.c_forms.specs.declared.pieces.Repetition.TheVariants.{Spliced}
 use Rattle.c_forms.specs.declared.pieces.Sort.{Sort}
 use Rattle.c_forms.specs.declared.pieces.Sort.TheVariants as s
-use Rattle.c_forms.specs.declared.forms.Form.{Form}
 use Rattle.c_forms.specs.declared.forms.Form.TheVariants as form
 use Rattle.c_forms.specs.declared.forms.ExpForm.{ExpForm}
 use Rattle.c_forms.specs.declared.forms.ExpForm.TheVariants as exp
@@ -20,11 +19,11 @@ use Rattle.c_forms.specs.declared.operators.BinaryOperator.{BinaryOperator}
 use Rattle.c_forms.specs.declared.operators.BinaryOperator.TheVariants as operator
 use Rattle.c_forms.specs.declared.forms.StmtForm.{StmtForm}
 use Rattle.c_forms.specs.declared.forms.StmtForm.TheVariants as stmt
-use Rattle.c_forms.specs.Forests.{Plain, forest, node}
+use Rattle.c_forms.specs.Forests.{Plain, node}
 use Rattle.c_forms.specs.Measures.{pieces}
-use Rattle.c_reader.specs.States.{State, nothing_kept, happens, is_type}
+use Rattle.c_reader.specs.States.{State, nothing_kept, happens}
 use Rattle.c_reader.specs.Tokens.{Spot, step, turned, raw_at, class_at}
-use Rattle.c_syntax.specs.Reading.{Usual, inside, spanned, the_list}
+use Rattle.c_syntax.specs.Reading.{Usual}
 use Rattle.c_syntax.specs.Spells.{Spelling, Matches}
 use Rattle.scope_meanings.specs.declared.meaning.NameUse.{NameUse}
 use Rattle.scope_meanings.specs.declared.meaning.NameUse.TheVariants as naming
@@ -34,8 +33,8 @@ use Rattle.scopes.specs.Settling.{Scoped, settled}
 use Rattle.spelled_scopes.specs.Meant.{frames, Runs, events_in, words_in, Goes}
 use Rattle.spelled_scopes.proofs.Apart.{apart, must_be_value, scope_settled, around}
 use Rattle.spelled_scopes.proofs.Inside.{inside_exp, inside_type_name}
-use Rattle.spelled_scopes.proofs.Joined.{append_nil, state_at, still, goes_on, over_parts}
-use Rattle.spelled_scopes.proofs.Laws.{Law, Says, Lists}
+use Rattle.spelled_scopes.proofs.Joined.{append_nil, state_at, goes_on, over_parts}
+use Rattle.spelled_scopes.proofs.Laws.{Says, Lists}
 use Rattle.spelled_scopes.proofs.Quiet.{Lawful, are_quiet, quiet_parts, quiet_list}
 use Rattle.spelled_scopes.proofs.Seen.{value_word, one_class}
 
@@ -46,8 +45,7 @@ name_says : (w : List Shape) (S : Spelling) (own : Sort) (word : Word) (sp : Spa
 name_says w S own word sp ts i j m = λ u f.
     let raw : raw_at w i.place ≡ shape.Word word = cc m.0.0 in
     let v = value_word i.state (raw_at w i.place) word raw (one_class (class_number class.Word) (class_at w i) m.0.1) (ap (λ k. k.has_type) f) in
-    let same : i.state ≡ j.state = state_at (step i) j m.1.1 in
-    (
+    let same : i.state ≡ j.state = state_at (step i) j m.1.1 in (
       record {
         scoped = must_be_value word sp [] i.state v ∙ ap (λ (s : State). Scoped (frames s.entries)) same;
         declared = ap (λ (s : State). s.entries) (sym same);
@@ -126,8 +124,8 @@ module _ (w : List Shape) (S : Spelling) (lawful : Lawful S) (own : Sort) where
       let back : o.state.entries ≡ i.state.entries = around ws i.state.is_late i.state.entries A.place.state.entries a.0.declared in
       let ran : Runs (scope es ++ []) [] i.state o.state = record {
         scoped = ap (λ l. settled l (frames i.state.entries)) (append_nil (scope es))
-        ∙ scope_settled es ws i.state.is_late i.state.entries A.place.state.entries (frames A.place.state.entries) a.0.scoped refl a.0.declared
-        ∙ ap (λ es. Scoped (frames es)) (sym back);
+            ∙ scope_settled es ws i.state.is_late i.state.entries A.place.state.entries (frames A.place.state.entries) a.0.scoped refl a.0.declared
+            ∙ ap (λ es. Scoped (frames es)) (sym back);
         declared = back;
         aside = a.0.aside;
       } in

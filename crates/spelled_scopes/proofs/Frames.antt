@@ -1,8 +1,7 @@
 -- The entries of a state and the scopes that they mean.
-use Rattle.std.proofs.Common.{◌≡◌, ◌≢◌, refl, ap, sym, subst, ◌∙◌, ℕ, Bool, true, false, List, [], ◌∷◌, ◌++◌, Option, Some, None, if◌then◌else◌, nat_eq, append_assoc}
+use Rattle.std.proofs.Common.{◌≡◌, ◌≢◌, refl, ap, sym, subst, ◌∙◌, ℕ, Bool, true, false, List, [], ◌∷◌, ◌++◌, Option, Some, if◌then◌else◌, nat_eq}
 use Rattle.std.specs.Prelude.{unwrap_or}
 use Rattle.std.specs.Map.{lookup}
-use Rattle.c_tokens.specs.declared.token.Word.{Word}
 use Rattle.c_reader.specs.States.{Entry, Edge, AsType, AsValue, is_type, outside, innermost, entry}
 use Rattle.scope_tables.specs.declared.table.WordClass.{WordClass}
 use Rattle.scope_tables.specs.declared.table.WordClass.TheVariants.{TypeName, Value}

@@ -1,5 +1,5 @@
 -- Function definitions, and external declarations.
-use Rattle.std.proofs.Common.{◌≡◌, refl, ap, sym, subst, ◌∙◌, ℕ, Bool, true, false, not, ◌||◌, if◌then◌else◌, List, [], ◌∷◌, ◌++◌, append_assoc, Option, Some, None}
+use Rattle.std.proofs.Common.{◌≡◌, refl, ap, sym, subst, ◌∙◌, ℕ, Bool, true, false, ◌||◌, if◌then◌else◌, List, [], ◌∷◌, ◌++◌, Option, Some, None}
 use Rattle.c_tokens.specs.declared.span.Span.{Span}
 use Rattle.c_tokens.specs.declared.token.Shape.{Shape}
 use Rattle.c_forms.specs.declared.pieces.Event.TheVariants as event
@@ -10,15 +10,13 @@ use Rattle.c_forms.specs.declared.forms.Form.TheVariants as form
 use Rattle.c_forms.specs.declared.forms.ItemForm.TheVariants as item
 use Rattle.c_forms.specs.Forests.{Plain, Forest, forest, node}
 use Rattle.c_forms.specs.Measures.{pieces}
-use Rattle.c_forms.specs.Rules.{is_none}
 use Rattle.c_reader.specs.States.{Entry, Edge, State, AsValue, nothing_kept, happens, parameters}
 use Rattle.c_reader.specs.States as States
-use Rattle.c_reader.specs.Tokens.{Spot, step, turned}
+use Rattle.c_reader.specs.Tokens.{Spot, turned}
 use Rattle.c_syntax.specs.Reading.{Usual, before_by, is_absent, spanned, the_list}
 use Rattle.c_syntax.specs.Spells.{Spelling, Matches}
 use Rattle.scope_tables.specs.declared.table.WordClass.TheVariants.{Value}
-use Rattle.scope_tables.specs.Frames.{Frame, declared}
-use Rattle.scope_meanings.specs.declared.meaning.NameUse.{NameUse}
+use Rattle.scope_tables.specs.Frames.{Frame}
 use Rattle.scope_meanings.specs.declared.meaning.NameUse.TheVariants as naming
 use Rattle.scope_meanings.specs.declared.meaning.Name.{Name}
 use Rattle.scope_meanings.specs.Meanings.{has_type, name_in, name_at, or_next}
@@ -33,7 +31,7 @@ use Rattle.spelled_scopes.proofs.Declarations.{specs_say}
 use Rattle.spelled_scopes.proofs.Frames.{settled_on, words_on, words_over}
 use Rattle.spelled_scopes.proofs.Inside.{inside_declarator, inside_block, inside_decl}
 use Rattle.spelled_scopes.proofs.Joined.{append_nil, state_at, goes_on, over_parts}
-use Rattle.spelled_scopes.proofs.Laws.{Says, Names, Nears, Finishes, number_or}
+use Rattle.spelled_scopes.proofs.Laws.{Names, Nears, Finishes, number_or}
 use Rattle.spelled_scopes.proofs.Quiet.{Lawful, quiet_list}
 use Rattle.spelled_scopes.proofs.Sorts.{Starts}
 use Rattle.spelled_scopes.proofs.Words.{only_beside}
@@ -109,8 +107,8 @@ module _ (w : List Shape) (S : Spelling) (lawful : Lawful S) (own : Sort) where
       (ap (λ l. settled l (frames i.state.entries)) (append_nil (events_in naming.Nothing a.trees)) ∙ g.scoped) ∙ asked in
       subst (λ z. Finishes (node (form.Item item.Function) sp ts) i.state z) end (subst (λ ts. Finishes (node (form.Item item.Function) sp ts) i.state z) (sym tree) (record {
         scoped = λ u. ap (λ l. settled l (frames i.state.entries)) (append_nil (events_of u (node (form.Item item.Function) sp (q ∷ B.first ∷ y ∷ D.first ∷ [])))
-        ∙ ap (λ n. events_of naming.Nothing q ++ ((if has_type (forest a.trees) then [] else checked n) ++ (events_of naming.Nothing B.first ++ (Events.declared Value n ++ scope (beside_name ps ++ es))))) named
-        ∙ ap (λ l. events_of naming.Nothing q ++ (check ++ (events_of naming.Nothing B.first ++ (Declare x.called.word Value ∷ scope (l ++ es))))) beside) ∙ whole;
+            ∙ ap (λ n. events_of naming.Nothing q ++ ((if has_type (forest a.trees) then [] else checked n) ++ (events_of naming.Nothing B.first ++ (Events.declared Value n ++ scope (beside_name ps ++ es))))) named
+            ∙ ap (λ l. events_of naming.Nothing q ++ (check ++ (events_of naming.Nothing B.first ++ (Declare x.called.word Value ∷ scope (l ++ es))))) beside) ∙ whole;
         aside = inner.aside ∙ n.silent.aside ∙ g.aside;
         free = refl;
       }))

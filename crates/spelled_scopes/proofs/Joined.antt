@@ -1,19 +1,19 @@
 -- Lists of trees side by side, and what reading one after the other does.
-use Rattle.std.proofs.Common.{◌≡◌, refl, ap, sym, subst, ◌∙◌, ◌⊎◌, inl, inr, ℕ, zero, suc, List, [], ◌∷◌, ◌++◌, append_assoc, Option, Some, None}
+use Rattle.std.proofs.Common.{◌≡◌, refl, ap, sym, subst, ◌∙◌, inl, inr, ℕ, zero, suc, List, [], ◌∷◌, ◌++◌, append_assoc, Option, Some, None}
 use Rattle.c_tokens.specs.declared.token.Shape.{Shape}
 use Rattle.c_tokens.specs.declared.class.Class.{Class}
 use Rattle.c_tokens.specs.declared.span.Span.{Span}
 use Rattle.c_forms.specs.declared.pieces.Sort.{Sort}
 use Rattle.c_forms.specs.declared.pieces.Repetition.{Repetition}
 use Rattle.c_forms.specs.declared.pieces.Repetition.TheVariants.{Optional, Greedy, Due, All, Any, Many, Spliced, Ended}
-use Rattle.c_forms.specs.Forests.{Plain, forest, node}
+use Rattle.c_forms.specs.Forests.{Plain, node}
 use Rattle.c_reader.specs.States.{State}
 use Rattle.c_reader.specs.Tokens.{Spot, step}
 use Rattle.c_syntax.specs.Reading.{Before, the_list}
-use Rattle.c_syntax.specs.Spells.{Separated, Longer, Chain, Elements, Absent, Once, IsGroup, IsList}
+use Rattle.c_syntax.specs.Spells.{Separated, Chain, Absent, Once, IsGroup}
 use Rattle.scope_meanings.specs.declared.meaning.NameUse.{NameUse}
 use Rattle.scopes.specs.declared.event.Event.{Event}
-use Rattle.scopes.specs.Events.{in_order, each, words, events_of, words_of}
+use Rattle.scopes.specs.Events.{events_of, words_of}
 use Rattle.scopes.specs.Settling.{Scoped, settled}
 use Rattle.spelled_scopes.specs.Meant.{frames, after_words, Runs, events_in, words_in, Goes}
 use Rattle.spelled_scopes.proofs.Frames.{settled_on, words_on}

@@ -1,14 +1,14 @@
 -- What reading a tree of each sort does: the events that hold, and what becomes of the declaration that stands there.
-use Rattle.std.proofs.Common.{◌≡◌, refl, ap, sym, subst, ◌∙◌, ℕ, not, ◌||◌, Bool, true, false, List, [], ◌∷◌, ◌++◌, Option, Some, None}
+use Rattle.std.proofs.Common.{◌≡◌, refl, ap, sym, ◌∙◌, ℕ, ◌||◌, Bool, true, false, List, [], ◌∷◌, ◌++◌, Option, Some, None}
 use Rattle.c_tokens.specs.declared.span.Span.{Span}
 use Rattle.c_tokens.specs.declared.token.Word.{Word}
 use Rattle.c_forms.specs.declared.pieces.Sort.{Sort}
 use Rattle.c_forms.specs.declared.pieces.Sort.TheVariants as s
 use Rattle.c_forms.specs.declared.forms.Form.TheVariants as form
-use Rattle.c_forms.specs.Forests.{Plain, Forest, forest, node}
+use Rattle.c_forms.specs.Forests.{Plain, forest, node}
 use Rattle.c_forms.specs.Rules.{is_name}
 use Rattle.c_forms.specs.Rules as Rules
-use Rattle.c_reader.specs.States.{State, Kept, Near, Bare, AsValue, nothing_kept, is_type, parameters, is_bare}
+use Rattle.c_reader.specs.States.{State, Bare, AsValue, nothing_kept, is_type, parameters, is_bare}
 use Rattle.scope_tables.specs.declared.table.WordClass.{WordClass}
 use Rattle.scope_tables.specs.Frames.{Frame, class_named, left}
 use Rattle.scope_meanings.specs.declared.meaning.NameUse.{NameUse}
@@ -19,7 +19,7 @@ use Rattle.scopes.specs.declared.event.Event.{Event}
 use Rattle.scopes.specs.Events.{checked, declared, beside_name, words_of_params}
 use Rattle.scopes.specs.Events as Events
 use Rattle.scopes.specs.Settling.{Scoped, settled}
-use Rattle.spelled_scopes.specs.Meant.{frames, after_words, Runs, events_in, words_in, Goes}
+use Rattle.spelled_scopes.specs.Meant.{frames, after_words, events_in, words_in, Goes}
 use Rattle.spelled_scopes.proofs.Joined.{still, goes_on}
 
 -- ---- trees side by side

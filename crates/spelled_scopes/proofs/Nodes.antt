@@ -1,5 +1,5 @@
 -- Each node keeps the law of its form.
-use Rattle.std.proofs.Common.{◌≡◌, refl, ap, sym, subst, ◌∙◌, ◌⊎◌, inl, inr, ℕ, Bool, true, false, ◌&&◌, List, [], ◌∷◌}
+use Rattle.std.proofs.Common.{◌≡◌, refl, sym, subst, ℕ, Bool, true, false, List}
 use Rattle.c_tokens.specs.declared.span.Span.{Span}
 use Rattle.c_tokens.specs.declared.token.Shape.{Shape}
 use Rattle.c_forms.specs.declared.pieces.Sort.{Sort}
@@ -8,18 +8,16 @@ use Rattle.c_forms.specs.declared.forms.Form.{Form}
 use Rattle.c_forms.specs.declared.forms.Form.TheVariants as form
 use Rattle.c_forms.specs.declared.forms.DeclaratorForm.{DeclaratorForm}
 use Rattle.c_forms.specs.declared.forms.DeclaratorForm.TheVariants as declarator
-use Rattle.c_forms.specs.declared.forms.StmtForm.{StmtForm}
 use Rattle.c_forms.specs.declared.forms.ItemForm.TheVariants as item
 use Rattle.c_forms.specs.declared.forms.GroupForm.{GroupForm}
 use Rattle.c_forms.specs.declared.forms.GroupForm.TheVariants as group
-use Rattle.c_forms.specs.Forests.{Plain, forest, node}
-use Rattle.c_forms.specs.Measures.{pieces, is_plain}
-use Rattle.c_forms.specs.Places.{stands, serves}
-use Rattle.c_reader.specs.States.{State, nothing_kept}
+use Rattle.c_forms.specs.Forests.{Plain, node}
+use Rattle.c_forms.specs.Measures.{pieces}
+use Rattle.c_forms.specs.Places.{serves}
+use Rattle.c_reader.specs.States.{State}
 use Rattle.c_reader.specs.Tokens.{Spot}
 use Rattle.c_syntax.specs.Reading.{Usual, inside, is_starred, spanned}
 use Rattle.c_syntax.specs.Spells.{Spelling, Matches, IsNode, may_be, parts_spelled}
-use Rattle.scopes.specs.Events.{beside_name}
 use Rattle.spelled_scopes.proofs.Declarations.{width_says, enumerator_value_says, initializer_says, type_name_says, member_declarator_says, member_says}
 use Rattle.spelled_scopes.proofs.Declarators.{declarator_says}
 use Rattle.spelled_scopes.proofs.Declared.{init_declarator_says, decl_says, param_says}

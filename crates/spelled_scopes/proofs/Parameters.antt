@@ -1,8 +1,7 @@
 -- The parameters of a function, and identifier lists.
-use Rattle.std.proofs.Common.{◌≡◌, refl, ap, sym, subst, ◌∙◌, ℕ, Bool, true, false, nat_eq, if◌then◌else◌, List, [], ◌∷◌, ◌++◌, Option, Some, None}
+use Rattle.std.proofs.Common.{◌≡◌, refl, ap, sym, subst, ◌∙◌, ℕ, Bool, true, false, nat_eq, if◌then◌else◌, List, [], ◌∷◌, ◌++◌, Some}
 use borrow.Author.Tests.{eqb-true}
 use Rattle.c_tokens.specs.declared.span.Span.{Span}
-use Rattle.c_tokens.specs.declared.token.Word.{Word}
 use Rattle.c_tokens.specs.declared.token.Shape.{Shape}
 use Rattle.c_tokens.specs.declared.token.Punct.TheVariants as punct
 use Rattle.c_tokens.specs.declared.class.Class.TheVariants as class
@@ -12,23 +11,21 @@ use Rattle.c_forms.specs.declared.pieces.Sort.TheVariants as s
 use Rattle.c_forms.specs.declared.forms.Form.TheVariants as form
 use Rattle.c_forms.specs.declared.forms.ParamsForm.{ParamsForm}
 use Rattle.c_forms.specs.declared.forms.ParamsForm.TheVariants as params
-use Rattle.c_forms.specs.Forests.{Plain, forest, node}
+use Rattle.c_forms.specs.Forests.{Plain, node}
 use Rattle.c_forms.specs.Measures.{pieces}
-use Rattle.c_reader.specs.States.{Entry, AsValue, State, nothing_kept, is_type}
-use Rattle.c_reader.specs.Tokens.{Spot, step}
+use Rattle.c_reader.specs.States.{Entry, State, nothing_kept, is_type}
+use Rattle.c_reader.specs.Tokens.{Spot}
 use Rattle.c_syntax.specs.Reading.{Usual, spanned, the_list}
 use Rattle.c_syntax.specs.Spells.{Spelling, Matches}
 use Rattle.scope_tables.specs.Frames.{left}
-use Rattle.scope_meanings.specs.declared.meaning.NameUse.{NameUse}
 use Rattle.scope_meanings.specs.declared.meaning.NameUse.TheVariants as naming
-use Rattle.scopes.specs.declared.event.Event.{Event}
 use Rattle.scopes.specs.Settling.{Scoped, settled}
-use Rattle.spelled_scopes.specs.Meant.{frames, after_words, Runs, events_in, words_in, Goes}
+use Rattle.spelled_scopes.specs.Meant.{frames, after_words, events_in, words_in}
 use Rattle.spelled_scopes.proofs.Apart.{must_be_value}
 use Rattle.spelled_scopes.proofs.Frames.{settled_on, words_on, words_left}
 use Rattle.spelled_scopes.proofs.Joined.{append_nil, state_at, events_joined, words_joined, grouped}
-use Rattle.spelled_scopes.proofs.Laws.{Law, Says, Listed, Parameters, Ends}
-use Rattle.spelled_scopes.proofs.Quiet.{Lawful, are_quiet, quiet_parts}
+use Rattle.spelled_scopes.proofs.Laws.{Says, Listed, Parameters}
+use Rattle.spelled_scopes.proofs.Quiet.{Lawful, quiet_parts}
 
 -- ---- identifier lists
 
@@ -50,11 +47,17 @@ ids_on ts vs s m z p q = λ f.
     let x = p f in
     let y = q x.1.1.0 in (
       y.0 ∙ ap (after_words (words_in naming.CheckedAndDeclared vs)) x.0 ∙ sym (words_on (words_in naming.CheckedAndDeclared ts) (words_in naming.CheckedAndDeclared vs) s.entries)
-      ∙ ap (λ ws. after_words ws s.entries) (sym (words_joined naming.CheckedAndDeclared ts vs)),
-      (y.1.0 ∙ x.1.0, (y.1.1.0, λ es o.
-        let a = x.1.1.1 es o in
-        let b = y.1.1.1 es a.1 in
-        (ap (λ l. settled l (frames es)) (events_joined naming.Checked ts vs) ∙ settled_on (events_in naming.Checked ts) (events_in naming.Checked vs) (frames es) (frames es) a.0 ∙ b.0, b.1))),
+          ∙ ap (λ ws. after_words ws s.entries) (sym (words_joined naming.CheckedAndDeclared ts vs)),
+      (
+        y.1.0 ∙ x.1.0,
+        (
+          y.1.1.0,
+          λ es o.
+              let a = x.1.1.1 es o in
+              let b = y.1.1.1 es a.1 in
+              (ap (λ l. settled l (frames es)) (events_joined naming.Checked ts vs) ∙ settled_on (events_in naming.Checked ts) (events_in naming.Checked vs) (frames es) (frames es) a.0 ∙ b.0, b.1),
+        ),
+      ),
     )
 
 apart_from : (b : Bool) → b ≡ false → b ≡ true → ⊥
@@ -74,14 +77,21 @@ id_says w S lawful t i j x = λ f.
     let l : Listed t i.state j.state = lawful s.ParameterId 0 t i j x in
     let v : is_type i.state.entries l.word.0 ≡ false = l.is_value f in
     subst (λ t. (j.state.entries ≡ after_words (words_in naming.CheckedAndDeclared (t ∷ [])) i.state.entries) × ((j.state.aside ≡ i.state.aside) × ((j.state.kept.has_type ≡ false)
-    × ((es : List Entry) → Types es i.state.entries → (settled (events_in naming.Checked (t ∷ [])) (frames es) ≡ Scoped (frames es)) × Types es j.state.entries)))) (sym l.value)
-    (l.entries, (l.aside, (l.has ∙ f, λ es o.
-      let here : is_type es l.word.0 ≡ false = not_there (is_type es l.word.0) (λ e. apart_from (is_type i.state.entries l.word.0) v (o l.word.0 e)) in
+    × ((es : List Entry) → Types es i.state.entries → (settled (events_in naming.Checked (t ∷ [])) (frames es) ≡ Scoped (frames es)) × Types es j.state.entries)))) (sym l.value) (
+      l.entries,
       (
-        must_be_value l.word l.span [] (record i.state { entries = es }) here,
-        λ n e. subst (λ zs. is_type zs n ≡ true) (sym l.entries) (kept_type (nat_eq n l.word.0) (is_type es n) (is_type i.state.entries n)
-        (λ c e. apart_from (is_type es l.word.0) here (ap (is_type es) (sym (eqb-true n l.word.0 c)) ∙ e)) (o n) e),
-      ))))
+        l.aside,
+        (
+          l.has ∙ f,
+          λ es o.
+              let here : is_type es l.word.0 ≡ false = not_there (is_type es l.word.0) (λ e. apart_from (is_type i.state.entries l.word.0) v (o l.word.0 e)) in (
+                must_be_value l.word l.span [] (record i.state { entries = es }) here,
+                λ n e. subst (λ zs. is_type zs n ≡ true) (sym l.entries) (kept_type (nat_eq n l.word.0) (is_type es n) (is_type i.state.entries n)
+                    (λ c e. apart_from (is_type es l.word.0) here (ap (is_type es) (sym (eqb-true n l.word.0 c)) ∙ e)) (o n) e),
+              ),
+        ),
+      ),
+    )
 
 -- ---- parameters
 

@@ -1,5 +1,5 @@
 -- Rows that only pass on what their parts do.
-use Rattle.std.proofs.Common.{◌≡◌, refl, ap, sym, subst, ◌∙◌, ◌⊎◌, inl, inr, ℕ, Bool, true, false, ◌&&◌, List, [], ◌∷◌, ◌++◌}
+use Rattle.std.proofs.Common.{◌≡◌, refl, sym, subst, inl, inr, ℕ, Bool, true, false, ◌&&◌, List, [], ◌∷◌}
 use Rattle.c_tokens.specs.declared.token.Shape.{Shape}
 use Rattle.c_forms.specs.declared.pieces.Sort.{Sort}
 use Rattle.c_forms.specs.declared.pieces.Sort.TheVariants as s
@@ -7,16 +7,14 @@ use Rattle.c_forms.specs.declared.pieces.Repetition.{Repetition}
 use Rattle.c_forms.specs.declared.pieces.Piece.{Piece}
 use Rattle.c_forms.specs.declared.pieces.Piece.TheVariants.{Token, Maybe, Own, TypeTokens, KindName, One, Group, Rest, Anything, Then}
 use Rattle.c_forms.specs.declared.forms.Form.{Form}
-use Rattle.c_forms.specs.Forests.{Plain, forest, node}
+use Rattle.c_forms.specs.Forests.{Plain}
 use Rattle.c_forms.specs.Rules.{is_none}
-use Rattle.c_reader.specs.States.{State, nothing_kept}
+use Rattle.c_reader.specs.States.{State}
 use Rattle.c_reader.specs.Tokens.{Spot, step}
-use Rattle.c_syntax.specs.Reading.{Before, Usual, before_by, is_absent, inside, spanned, the_list}
-use Rattle.c_syntax.specs.Spells.{Spelling, IsGroup, IsList, Parted, Matches}
-use Rattle.scope_meanings.specs.declared.meaning.NameUse.{NameUse}
+use Rattle.c_syntax.specs.Reading.{Before, Usual, before_by, is_absent, inside, spanned}
+use Rattle.c_syntax.specs.Spells.{Spelling, IsGroup, IsList, Matches}
 use Rattle.scope_meanings.specs.declared.meaning.NameUse.TheVariants as naming
-use Rattle.spelled_scopes.specs.Meant.{Goes}
-use Rattle.spelled_scopes.proofs.Joined.{state_at, listed, grouped}
+use Rattle.spelled_scopes.proofs.Joined.{listed, grouped}
 use Rattle.spelled_scopes.proofs.Inside.{inside_exp, inside_id, inside_init, inside_decl, inside_stmt, inside_block}
 use Rattle.spelled_scopes.proofs.Laws.{Law, Says, says_none, says_on}
 

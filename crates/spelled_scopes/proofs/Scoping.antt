@@ -1,21 +1,20 @@
 -- The scopes of what is spelled are those of its tree.
-use Rattle.std.proofs.Common.{◌≡◌, refl, ap, sym, subst, ◌∙◌, ℕ, List, [], ◌∷◌, ◌++◌}
+use Rattle.std.proofs.Common.{◌≡◌, ap, sym, subst, ◌∙◌, ℕ, List, [], ◌∷◌}
 use Rattle.std.specs.Prelude.{map}
 use Rattle.c_tokens.specs.declared.token.Shape.{Shape}
 use Rattle.c_forms.specs.declared.pieces.Sort.{Sort}
 use Rattle.c_forms.specs.declared.pieces.Sort.TheVariants as s
 use Rattle.c_forms.specs.Forests.{Plain}
-use Rattle.c_reader.specs.States.{State, nothing_kept}
+use Rattle.c_reader.specs.States.{State}
 use Rattle.c_reader.specs.Tokens.{Spot}
 use Rattle.c_syntax.specs.Spells.{Spells}
 use Rattle.scope_meanings.specs.declared.meaning.NameUse.TheVariants as naming
 use Rattle.scopes.specs.Events.{in_order, events}
 use Rattle.scopes.specs.Settling.{Scoped, settled}
-use Rattle.spelled_scopes.specs.Meant.{frames, Goes, events_in}
+use Rattle.spelled_scopes.specs.Meant.{frames, events_in}
 use Rattle.spelled_scopes.specs.Agreement.{IsFree, AreScoped, Agrees, Alike, Items}
 use Rattle.spelled_scopes.proofs.Joined.{append_nil}
 use Rattle.spelled_scopes.proofs.Frames.{settled_on}
-use Rattle.spelled_scopes.proofs.Laws.{Finishes}
 use Rattle.spelled_scopes.proofs.Spans.{scoped_alike}
 use Rattle.spelled_scopes.proofs.Spelled.{spelled_law}
 

@@ -1,5 +1,5 @@
 -- What the form of a node makes of what stands where a sort is due.
-use Rattle.std.proofs.Common.{◌≡◌, refl, ap, sym, subst, ◌∙◌, Bool, true, false, ◌&&◌, not, List, [], ◌∷◌}
+use Rattle.std.proofs.Common.{◌≡◌, refl, Bool, true, false, [], ◌∷◌}
 use Rattle.c_forms.specs.declared.pieces.Sort.{Sort}
 use Rattle.c_forms.specs.declared.pieces.Sort.TheVariants as s
 use Rattle.c_forms.specs.declared.forms.Form.{Form}
@@ -17,7 +17,6 @@ use Rattle.c_forms.specs.Forests.{Plain, forest}
 use Rattle.c_forms.specs.Measures.{is_plain}
 use Rattle.c_forms.specs.Places.{stands}
 use Rattle.c_reader.specs.States.{State, nothing_kept}
-use Rattle.c_syntax.specs.Spells.{may_be}
 use Rattle.scope_meanings.specs.declared.meaning.NameUse.{NameUse}
 use Rattle.scopes.specs.Events.{beside_name}
 use Rattle.spelled_scopes.proofs.Laws.{Says, Keeps, Lists, Specifies, Members, Inits, Names, Nears, Parameters, Finishes, Law}
@@ -310,4 +309,3 @@ at_else_part (form.Stmt stmt.Block) t i j p e l = absurd (cc e)
 at_else_part (form.Template (template.Many k)) t i j p e l = absurd (cc e)
 at_else_part (form.Group group.List) t i j p e l = absurd (cc e)
 at_else_part f t i j p e l = absurd (cc (e, p))
-

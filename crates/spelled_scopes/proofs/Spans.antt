@@ -1,12 +1,11 @@
 -- Whether a tree is scoped does not depend on its spans.
-use Rattle.std.proofs.Common.{◌≡◌, ◌≢◌, refl, ap, sym, subst, ◌∙◌, Bool, true, false, ◌||◌, not, if◌then◌else◌, List, [], ◌∷◌, ◌++◌, Option, Some, None}
+use Rattle.std.proofs.Common.{◌≡◌, ◌≢◌, refl, ap, sym, ◌∙◌, Bool, true, false, ◌||◌, not, if◌then◌else◌, List, [], ◌∷◌, ◌++◌, Option, Some, None}
 use Rattle.c_tokens.specs.declared.span.Span.{Span}
 use Rattle.c_tokens.specs.declared.token.Word.{Word}
 use Rattle.c_forms.specs.declared.forms.Form.{Form}
 use Rattle.c_forms.specs.declared.forms.Form.TheVariants as form
 use Rattle.c_forms.specs.declared.forms.DeclaratorForm.TheVariants as declarator
 use Rattle.c_forms.specs.declared.forms.ParamsForm.TheVariants as params
-use Rattle.c_forms.specs.declared.forms.GroupForm.TheVariants as group
 use Rattle.c_forms.specs.Forests.{Plain, Forest, empty, tree}
 use Rattle.c_forms.specs.Rules.{in_first, after_first, is_name}
 use Rattle.c_forms.specs.Rules as Rules
@@ -21,8 +20,7 @@ use Rattle.scope_meanings.specs.declared.meaning.Name.{Name}
 use Rattle.scope_meanings.specs.Meanings.{meaning, inside, declares, name_in, name_at, or_next, has_type, has_typedef, is_typedef, checked_if, in_param}
 use Rattle.scopes.specs.declared.event.Event.{Event}
 use Rattle.scopes.specs.declared.event.Event.TheVariants.{Enter, Leave, Must, Declare}
-use Rattle.scopes.specs.Events.{in_order, scope, at_identifier, checked, declared_as, redeclared, words, words_by, words_of_params, beside_at, beside_name, by_meaning, at_node, each, events, function, name_checked, body}
-use Rattle.scopes.specs.Events as Events
+use Rattle.scopes.specs.Events.{in_order, scope, at_identifier, checked, declared_as, words, words_by, words_of_params, beside_at, beside_name, by_meaning, at_node, each, events, function, name_checked, body}
 use Rattle.scopes.specs.Settling.{Settled, Scoped, Clashes, settled, is_same}
 use Rattle.spelled_scopes.specs.Agreement.{no_span, unspanned, Alike}
 use Rattle.spelled_scopes.proofs.Words.{by_beside}
@@ -206,9 +204,9 @@ bare_function ps (specs ∷ []) = refl
 bare_function ps (specs ∷ (names ∷ others)) =
     let last : List Event = declared_as (Some Value) (name_in ps) ++ body ps others in
     bare_on specs (name_checked ps ++ (names ++ last)) ∙ ap (λ l. bare specs ++ l) (
-      bare_on (name_checked ps) (names ++ last) ∙ ap (λ l. l ++ bare (names ++ last)) (bare_name_checked ps) ∙ ap (λ l. name_checked (unspanned ps) ++ l) (
-        bare_on names last ∙ ap (λ l. bare names ++ l) (
-          bare_on (declared_as (Some Value) (name_in ps)) (body ps others) ∙ ap (λ l. l ++ bare (body ps others)) (bare_declared ps) ∙ ap (λ l. declared_as (Some Value) (name_in (unspanned ps)) ++ l) (bare_body ps others))))
+    bare_on (name_checked ps) (names ++ last) ∙ ap (λ l. l ++ bare (names ++ last)) (bare_name_checked ps) ∙ ap (λ l. name_checked (unspanned ps) ++ l) (
+    bare_on names last ∙ ap (λ l. bare names ++ l) (
+    bare_on (declared_as (Some Value) (name_in ps)) (body ps others) ∙ ap (λ l. l ++ bare (body ps others)) (bare_declared ps) ∙ ap (λ l. declared_as (Some Value) (name_in (unspanned ps)) ++ l) (bare_body ps others))))
 
 bare_by : (m : Meaning) (u : NameUse) (k : Option WordClass) (sp : Span) (ps : Forest) (parts : List (List Event)) → bare (by_meaning m u k sp ps parts) ≡ by_meaning m u k no_span (unspanned ps) (all_bare parts)
 bare_by means.Nothing u k sp ps parts = refl

@@ -1,5 +1,5 @@
 -- Specifiers, and what stands in structures and enumerations.
-use Rattle.std.proofs.Common.{◌≡◌, refl, ap, sym, subst, ◌∙◌, ℕ, Bool, true, false, not, ◌||◌, List, [], ◌∷◌, ◌++◌, Option, Some, None}
+use Rattle.std.proofs.Common.{◌≡◌, refl, ap, sym, subst, ◌∙◌, ℕ, Bool, true, false, ◌||◌, List, [], ◌∷◌, ◌++◌, Some}
 use Rattle.c_tokens.specs.declared.span.Span.{Span}
 use Rattle.c_tokens.specs.declared.token.Word.{Word}
 use Rattle.c_tokens.specs.declared.token.Shape.{Shape}
@@ -11,35 +11,33 @@ use Rattle.c_forms.specs.declared.operators.StorageClass.TheVariants as storage
 use Rattle.c_forms.specs.declared.operators.StructOrUnion.{StructOrUnion}
 use Rattle.c_forms.specs.declared.pieces.Event.TheVariants as event
 use Rattle.c_forms.specs.declared.pieces.Repetition.{Repetition}
-use Rattle.c_forms.specs.declared.pieces.Repetition.TheVariants.{Optional, Due, All, Many, Spliced}
+use Rattle.c_forms.specs.declared.pieces.Repetition.TheVariants.{Optional, Due, Spliced}
 use Rattle.c_forms.specs.declared.pieces.Sort.{Sort}
 use Rattle.c_forms.specs.declared.pieces.Sort.TheVariants as s
-use Rattle.c_forms.specs.declared.forms.Form.{Form}
 use Rattle.c_forms.specs.declared.forms.Form.TheVariants as form
 use Rattle.c_forms.specs.declared.forms.SpecForm.{SpecForm}
 use Rattle.c_forms.specs.declared.forms.SpecForm.TheVariants as spec
 use Rattle.c_forms.specs.declared.forms.GroupForm.TheVariants as group
-use Rattle.c_forms.specs.Forests.{Plain, forest, node}
+use Rattle.c_forms.specs.Forests.{Plain, node}
 use Rattle.c_forms.specs.Measures.{pieces}
 use Rattle.c_forms.specs.Rules.{is_none}
 use Rattle.c_forms.specs.Sets.{type_word}
 use Rattle.c_reader.specs.States.{State, AsValue, nothing_kept, happens}
 use Rattle.c_reader.specs.States as States
 use Rattle.c_reader.specs.Tokens.{Spot, step, turned, raw_at, class_at}
-use Rattle.c_syntax.specs.Reading.{Before, Usual, before_by, is_absent, inside, spanned, the_list}
+use Rattle.c_syntax.specs.Reading.{Before, Usual, before_by, is_absent, spanned}
 use Rattle.c_syntax.specs.Spells.{Spelling, Matches, IsGroup, IsList}
-use Rattle.scope_tables.specs.declared.table.WordClass.TheVariants.{TypeName, Value}
+use Rattle.scope_tables.specs.declared.table.WordClass.TheVariants.{Value}
 use Rattle.scope_meanings.specs.declared.meaning.NameUse.{NameUse}
 use Rattle.scope_meanings.specs.declared.meaning.NameUse.TheVariants as naming
-use Rattle.scope_meanings.specs.Meanings.{name_in}
 use Rattle.scopes.specs.declared.event.Event.{Event}
 use Rattle.scopes.specs.declared.event.Event.TheVariants.{Declare}
-use Rattle.scopes.specs.Settling.{Scoped, settled}
+use Rattle.scopes.specs.Settling.{Scoped}
 use Rattle.spelled_scopes.specs.Meant.{frames, Runs, events_in, words_in, Goes}
 use Rattle.spelled_scopes.proofs.Apart.{apart, must_be_type}
-use Rattle.spelled_scopes.proofs.Inside.{inside_exp, inside_init, inside_enumerator_id}
-use Rattle.spelled_scopes.proofs.Joined.{append_nil, state_at, still, goes_on, runs_on, as_runs, over_parts, listed, grouped, moved}
-use Rattle.spelled_scopes.proofs.Laws.{Law, Says, Keeps, Lists, Specifies, Noted, says_none, says_on, keeps_none, keeps_on, lists_none, lists_on, or_none}
+use Rattle.spelled_scopes.proofs.Inside.{inside_enumerator_id}
+use Rattle.spelled_scopes.proofs.Joined.{append_nil, state_at, goes_on, runs_on, as_runs, over_parts, listed, grouped, moved}
+use Rattle.spelled_scopes.proofs.Laws.{Says, Keeps, Lists, Specifies, Noted, keeps_none, keeps_on, lists_none, lists_on, or_none}
 use Rattle.spelled_scopes.proofs.Quiet.{Lawful, quiet_parts, quiet_list}
 use Rattle.spelled_scopes.proofs.Seen.{type_named, one_class}
 use Rattle.spelled_scopes.proofs.Sorts.{is_qualifier}

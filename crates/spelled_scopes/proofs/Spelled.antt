@@ -1,9 +1,8 @@
 -- What is spelled keeps the law of its sort.
-use Rattle.std.proofs.Common.{◌≡◌, refl, ap, sym, subst, ◌∙◌, ◌⊎◌, inl, inr, ℕ, zero, suc, Bool, true, false, ◌&&◌, List, [], ◌∷◌, Some}
+use Rattle.std.proofs.Common.{◌≡◌, refl, ap, sym, subst, ◌∙◌, inl, inr, ℕ, zero, suc, Bool, true, false, List, [], ◌∷◌, Some}
 use Rattle.c_tokens.specs.declared.span.Span.{Span}
 use Rattle.c_tokens.specs.declared.token.Word.{Word}
 use Rattle.c_tokens.specs.declared.token.Shape.{Shape}
-use Rattle.c_tokens.specs.declared.token.Shape.TheVariants as shape
 use Rattle.c_forms.specs.declared.pieces.Event.TheVariants as event
 use Rattle.c_forms.specs.declared.pieces.Sort.{Sort}
 use Rattle.c_forms.specs.declared.pieces.Sort.TheVariants as s
@@ -22,7 +21,7 @@ use Rattle.c_reader.specs.States.{AsValue, State, nothing_kept, happens}
 use Rattle.c_reader.specs.States as States
 use Rattle.c_reader.specs.Tokens.{Spot, step, turned, raw_at}
 use Rattle.c_syntax.specs.Allowed.{places}
-use Rattle.c_syntax.specs.Spells.{Spelling, nothing_spelled, IsNode, Wraps, AnyWord, ValueWord, after_name, IsLiteral, may_be, started_by, has_no_specifiers, At, InPlace, Spells}
+use Rattle.c_syntax.specs.Spells.{Spelling, nothing_spelled, IsNode, Wraps, AnyWord, ValueWord, after_name, may_be, started_by, has_no_specifiers, At, InPlace, Spells}
 use Rattle.scope_meanings.specs.declared.meaning.NameUse.{NameUse}
 use Rattle.scope_meanings.specs.declared.meaning.NameUse.TheVariants as naming
 use Rattle.spelled_scopes.specs.Meant.{Goes}

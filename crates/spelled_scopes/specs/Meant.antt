@@ -7,7 +7,7 @@ use Rattle.scope_tables.specs.declared.table.WordClass.TheVariants.{TypeName, Va
 use Rattle.scope_tables.specs.Frames.{Frame, entered, declared}
 use Rattle.scope_meanings.specs.declared.meaning.NameUse.{NameUse}
 use Rattle.scopes.specs.declared.event.Event.{Event}
-use Rattle.scopes.specs.declared.event.Event.TheVariants.{Enter, Leave, Must, Declare}
+use Rattle.scopes.specs.declared.event.Event.TheVariants.{Declare}
 use Rattle.scopes.specs.Events.{in_order, each, words}
 use Rattle.scopes.specs.Settling.{Scoped, settled}
 
