@@ -1,3 +1,4 @@
 pub mod States
 pub mod Tokens
 pub mod Readers
+pub mod Laws

@@ -2,7 +2,6 @@
 use Rattle.std.specs.Prelude.{◌≡◌, ◌≤◌, ℕ, ◌+◌, List, slice_index_or}
 use Rattle.c_tokens.specs.declared.token.Shape.{Shape}
 use Rattle.c_tokens.specs.declared.token.Shape.TheVariants as shape
-use Rattle.c_forms.specs.declared.pieces.Event.{Event}
 use Rattle.c_reader.specs.States.{State, Seen, seen, class}
 
 -- a place among tokens, by the number of the token there, and what is known there

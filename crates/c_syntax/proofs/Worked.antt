@@ -1,5 +1,5 @@
 -- The reader at work: what it reads, and the first token at which it stops. The words 1 and 2, T and U, are types.
-use Rattle.std.proofs.Common.{◌≡◌, refl, ℕ, Bool, true, false, if◌then◌else◌, nat_eq, length, List, [], ◌∷◌, Result, Ok, Err}
+use Rattle.std.proofs.Common.{◌≡◌, refl, ℕ, false, if◌then◌else◌, nat_eq, length, List, [], ◌∷◌, Ok, Err}
 use Rattle.c_tokens.specs.declared.token.Key.TheVariants as k
 use Rattle.c_tokens.specs.declared.token.Punct.TheVariants as p
 use Rattle.c_tokens.specs.declared.token.Shape.{Shape}
@@ -7,7 +7,7 @@ use Rattle.c_tokens.specs.declared.token.Shape.TheVariants.{Key, Punct as Sign, 
 use Rattle.c_reader.specs.declared.refusal.Refusal.TheVariants.{Memory, Syntax, TooDeep}
 use Rattle.c_reader.specs.States.{State, AsType, nothing_kept}
 use Rattle.c_reader.specs.Tokens.{spot}
-use Rattle.c_reader.specs.Readers.{Input, Outcome, Found, read, below, loop}
+use Rattle.c_reader.specs.Readers.{Outcome, Found, read, below, loop}
 use Rattle.c_syntax.specs.Reading.{element_after, others, others_ended, many, gathered, pieces_in, completed}
 use Rattle.c_syntax.specs.Grammar.{whole, climb, type_or, primary, expression, opened, declarator_head, declarator_of, specifier, parameters, worded, statement, type_first, block_item, external, in_place, body, item_reader}
 
@@ -48,7 +48,6 @@ c = Char (record { 0 = 92 })
 
 abbrev s : Shape
 s = Str (record { 0 = 93 })
-
 
 -- ---- expressions
 

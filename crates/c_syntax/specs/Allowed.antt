@@ -1,5 +1,5 @@
 -- What the state of a declaration allows, and how deep nodes that do not count for the height lie in one another.
-use Rattle.std.specs.Prelude.{ℕ, Bool, true, false, not, ◌&&◌, ◌||◌, Option, is_some}
+use Rattle.std.specs.Prelude.{ℕ, Bool, true, false, not, ◌&&◌, ◌||◌, is_some}
 use Rattle.c_forms.specs.declared.pieces.Event.{Event}
 use Rattle.c_forms.specs.declared.pieces.Event.TheVariants as event
 use Rattle.c_forms.specs.declared.forms.Form.{Form}
@@ -13,9 +13,14 @@ may_happen event.Seal state = not (state.kept.is_function_due && is_bare state.k
 may_happen event.Open state = is_function state
 may_happen _ state = true
 
+-- whether a type specifier, which allows no other or does, may be one more
+abbrev pub fits_beside : State → Bool → Bool
+fits_beside state true = not state.kept.has_type
+fits_beside state false = not state.kept.is_sole
+
 -- A structure, union, enumeration or typedef name stands where there is no other type specifier, and none stands beside it (6.5.2).
 abbrev pub may_stand : State → Form → Bool
-may_stand state f = not (is_type f) || (not state.kept.is_sole && (not (is_sole f) || not state.kept.has_type))
+may_stand state f = not (is_type f) || fits_beside state (is_sole f)
 
 -- the declarator whose parameters stand here has a name
 abbrev pub has_name : State → Bool

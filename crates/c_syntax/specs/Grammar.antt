@@ -1,5 +1,5 @@
 -- The reader of plain C90, made of the table of forms (ISO/IEC 9899:1990, 6.3 to 6.7).
-use Rattle.std.specs.Prelude.{ℕ, zero, suc, ◌+◌, ◌-◌, max, Bool, true, false, not, ◌&&◌, ◌||◌, nat_eq, nat_lt, List, [], ◌∷◌, Option, Some, None, if◌then◌else◌}
+use Rattle.std.specs.Prelude.{ℕ, zero, suc, ◌+◌, ◌-◌, max, Bool, true, false, not, ◌&&◌, ◌||◌, nat_eq, nat_lt, List, [], ◌∷◌, Option, Some, None}
 use Rattle.c_tokens.specs.declared.token.Word.{Word}
 use Rattle.c_tokens.specs.declared.token.Key.TheVariants as key
 use Rattle.c_tokens.specs.declared.token.Punct.{Punct}
@@ -29,12 +29,11 @@ use Rattle.c_forms.specs.declared.forms.GroupForm.TheVariants as group
 use Rattle.c_forms.specs.Forests.{Plain}
 use Rattle.c_forms.specs.Measures.{level, pieces}
 use Rattle.c_forms.specs.Tokens.{begun, continued}
-use Rattle.c_forms.specs.Sets.{has, starts, type_word, goes_on}
+use Rattle.c_forms.specs.Sets.{has, starts, type_word}
 use Rattle.c_reader.specs.States.{State, Seen, is_function, is_bare}
-use Rattle.c_reader.specs.Tokens.{Spot}
-use Rattle.c_reader.specs.Readers.{Reader, Found, Turn, Body, Rule, Of, Opened, Give, Refuse, Look, Next, Pick, Note, Bind, Fits, Call, Loop, Ask, Change, ◌>>=◌, ◌>>◌, choose, only, token, turn_while}
+use Rattle.c_reader.specs.Readers.{Reader, Found, Turn, Body, Of, Opened, Give, Refuse, Look, Next, Pick, Note, Fits, Call, Loop, Ask, Change, ◌>>=◌, ◌>>◌, choose, token, turn_while}
 use Rattle.c_syntax.specs.Allowed.{may_stand, has_name, places}
-use Rattle.c_syntax.specs.Reading.{Usual, Listed, Parts, Gathered, nothing, one, node, deeper, called, parts_of, is_starred, with_last, none_at, list_from, is_absent, is_class, others, many, grouped, gathered, pieces_in, completed}
+use Rattle.c_syntax.specs.Reading.{Usual, Parts, nothing, one, node, deeper, called, parts_of, is_starred, with_last, none_at, list_from, is_absent, is_class, others, grouped, gathered, completed}
 
 -- ---- classes of tokens
 
@@ -77,11 +76,11 @@ after_part inner own f i x = completed (parts_of f inner) own f i (one x) (after
 
 -- ---- words
 
-abbrev word_of : Shape → Option Word
+abbrev pub word_of : Shape → Option Word
 word_of (shape.Word word) = Some word
 word_of _ = None
 
-abbrev leaf_of : (Word → Form) → ℕ → Option Word → Option Found
+abbrev pub leaf_of : (Word → Form) → ℕ → Option Word → Option Found
 leaf_of f i (Some word) = Some (node (f word) i (i + 1) nothing)
 leaf_of f i None = None
 
@@ -89,7 +88,7 @@ abbrev pub leaf_if : Bool → (Word → Form) → ℕ → Seen → Option Found
 leaf_if true f i x = leaf_of f i (word_of x.shape)
 leaf_if false f i x = None
 
-abbrev literal_of : Shape → ℕ → Option Found
+abbrev pub literal_of : Shape → ℕ → Option Found
 literal_of (shape.Str word) i = Some (node (form.Literal word) i (i + 1) nothing)
 literal_of _ i = None
 
@@ -182,7 +181,7 @@ sized_opened i = Call Opened >>= λ x. Ask (λ j. Give (node (form.Exp exp.Sizeo
 abbrev pub sized : Parts → ℕ → ℕ → Reader Standing
 sized inner least i = Fits 0 (Next (Look (λ x. choose (is_sign punct.LeftParen x)
     (type_or (tight least (form.Exp exp.SizeofType) (completed called s.Exp (form.Exp exp.SizeofType) i nothing (after_paren (pieces (form.Exp exp.SizeofType)))))
-        (tight least (form.Exp exp.SizeofExp) (sized_opened i)))
+    (tight least (form.Exp exp.SizeofExp) (sized_opened i)))
     (tight least (form.Exp exp.SizeofExp) (completed called s.Exp (form.Exp exp.SizeofExp) i nothing (after_first (pieces (form.Exp exp.SizeofExp))))))))
 
 abbrev pub begun_by : Parts → ℕ → Option Form → Reader Standing
@@ -275,8 +274,8 @@ specifier inner due = Ask (λ i. Look (λ x. choose (begins due x) (specifier_by
 abbrev pub typed : Parts → ℕ → Reader Found
 typed inner i = gathered (Ended (sign punct.Comma) (sign punct.Ellipsis)) s.Param (inner s.Param 0) Usual
     >>= λ g. choose g.1.is_ended
-        (token (class_number (sign punct.Ellipsis)) >> Ask (λ j. Give (node (form.Params params.TypedAndMore) i j.place (one (list_from g.0 g.1)))))
-        (Ask (λ j. Give (node (form.Params params.Typed) i j.place (one (list_from g.0 g.1)))))
+    (token (class_number (sign punct.Ellipsis)) >> Ask (λ j. Give (node (form.Params params.TypedAndMore) i j.place (one (list_from g.0 g.1)))))
+    (Ask (λ j. Give (node (form.Params params.Typed) i j.place (one (list_from g.0 g.1)))))
 
 -- a declarator without a name has no identifier list
 unfoldable pub parameters : Parts → Reader Found
@@ -361,21 +360,21 @@ declaration_from inner i specs j d = after_part inner s.InitDeclarator (form.Gro
     >>= λ x. Ask (λ k. others (Spliced (Some (sign punct.Comma)) 0) s.InitDeclarator (inner s.InitDeclarator 0) (with_last (none_at j) x k.place))
     >>= λ g. declaration_of inner i specs (list_from j g)
 
--- what follows the first declarator decides
-abbrev pub outer_by : Parts → ℕ → Found → ℕ → Found → Reader Found
-outer_by inner i specs j d = Ask (λ k. Look (λ y. choose (k.state.kept.is_function_due || (is_function k.state && not (goes_on_declaring y)))
+-- what follows the first declarator decides, unless it must be a function
+abbrev pub outer_by : Bool → Parts → ℕ → Found → ℕ → Found → Reader Found
+outer_by due inner i specs j d = Ask (λ k. Look (λ y. choose (due || (is_function k.state && not (goes_on_declaring y)))
     (function_from inner i specs d) (declaration_from inner i specs j d)))
 
-abbrev pub outer : Parts → ℕ → Found → Reader Found
-outer inner i specs = Ask (λ j. inner s.Declarator 1 >>= λ d. outer_by inner i specs j.place d)
+abbrev pub outer : Bool → Parts → ℕ → Found → Reader Found
+outer due inner i specs = Ask (λ j. inner s.Declarator 1 >>= λ d. outer_by due inner i specs j.place d)
 
 abbrev pub specified : Parts → ℕ → Reader Found
 specified inner i = grouped All s.Spec (inner s.Spec 0) Usual >>= λ specs. Ask (λ j. Look (λ y. choose (is_sign punct.Semicolon y)
-    (declaration_of inner i specs (list_from j.place (none_at j.place))) (outer inner i specs)))
+    (declaration_of inner i specs (list_from j.place (none_at j.place))) (outer false inner i specs)))
 
 -- without specifiers it is a function
 abbrev pub unspecified : Parts → ℕ → Reader Found
-unspecified inner i = Change event.FunctionDue (outer inner i (list_from i (none_at i)))
+unspecified inner i = Change event.FunctionDue (outer true inner i (list_from i (none_at i)))
 
 unfoldable pub external : Parts → Reader Found
 external inner = Ask (λ i. Look (λ x. choose (begins s.Spec x) (specified inner i.place) (unspecified inner i.place)))

@@ -1,10 +1,8 @@
 -- The pieces of a row, read one after the other.
-use Rattle.std.specs.Prelude.{ℕ, ◌+◌, max, Bool, true, false, not, ◌&&◌, ◌||◌, nat_eq, nat_lt, List, [], ◌∷◌, ◌++◌, Option, Some, None, if◌then◌else◌}
+use Rattle.std.specs.Prelude.{ℕ, ◌+◌, max, Bool, true, false, nat_eq, List, [], ◌∷◌, ◌++◌, Option, Some, None}
 use Rattle.c_tokens.specs.declared.span.Span.{Span}
 use Rattle.c_tokens.specs.declared.class.Class.{Class}
 use Rattle.c_tokens.specs.ClassNumbers.{class_number}
-use Rattle.c_forms.specs.declared.pieces.Event.{Event}
-use Rattle.c_forms.specs.declared.pieces.Event.TheVariants as event
 use Rattle.c_forms.specs.declared.pieces.Sort.{Sort}
 use Rattle.c_forms.specs.declared.pieces.Sort.TheVariants as s
 use Rattle.c_forms.specs.declared.pieces.Repetition.{Repetition}
@@ -20,9 +18,8 @@ use Rattle.c_forms.specs.Forests as forests
 use Rattle.c_forms.specs.Measures.{star}
 use Rattle.c_forms.specs.Sets.{Classes, has, starts, element_starts, goes_on_with, held_class}
 use Rattle.c_reader.specs.States.{Seen}
-use Rattle.c_reader.specs.Tokens.{Spot}
 use Rattle.c_syntax.specs.Allowed.{may_happen}
-use Rattle.c_reader.specs.Readers.{Reader, Found, Turn, More, Last, Give, Refuse, Look, Next, Pick, Bind, Fits, Call, Of, Loop, Ask, Change, ◌>>=◌, ◌>>◌, choose, only, token, repeat}
+use Rattle.c_reader.specs.Readers.{Reader, Found, Turn, More, Last, Give, Refuse, Look, Next, Pick, Call, Of, Loop, Ask, Change, ◌>>=◌, ◌>>◌, choose, only, token, repeat}
 
 -- ---- nodes
 
@@ -177,7 +174,7 @@ grouped r due element before = gathered r due element before >>= λ g. Give (lis
 
 -- ---- pieces
 
-abbrev is_absent_form : Form → Bool
+abbrev pub is_absent_form : Form → Bool
 is_absent_form (form.Declarator declarator.Absent) = true
 is_absent_form f = false
 
@@ -188,7 +185,7 @@ abbrev pub before_by : Bool → Before
 before_by true = Missing
 before_by false = Taken
 
-abbrev has_none : List Plain → Bool
+abbrev pub has_none : List Plain → Bool
 has_none [] = true
 has_none (t ∷ ts) = false
 

@@ -1,5 +1,5 @@
 -- What spells a tree in plain C90 (ISO/IEC 9899:1990, 6.3 to 6.7), whatever reads it.
-use Rattle.std.specs.Prelude.{◌≡◌, ◌≤◌, ◌⊎◌, ℕ, zero, suc, ◌+◌, Bool, true, false, not, ◌&&◌, ◌||◌, nat_eq, List, [], ◌∷◌, ◌++◌, Option, Some, None, if◌then◌else◌}
+use Rattle.std.specs.Prelude.{◌≡◌, ◌≤◌, ◌⊎◌, ℕ, zero, suc, ◌+◌, Bool, true, false, not, ◌&&◌, ◌||◌, List, [], ◌∷◌, ◌++◌, Option, Some, None}
 use Rattle.c_tokens.specs.declared.token.Word.{Word}
 use Rattle.c_tokens.specs.declared.token.Punct.TheVariants as punct
 use Rattle.c_tokens.specs.declared.token.Shape.{Shape}
@@ -7,7 +7,6 @@ use Rattle.c_tokens.specs.declared.token.Shape.TheVariants as shape
 use Rattle.c_tokens.specs.declared.class.Class.{Class}
 use Rattle.c_tokens.specs.declared.class.Class.TheVariants as class
 use Rattle.c_tokens.specs.ClassNumbers.{class_number}
-use Rattle.c_forms.specs.declared.pieces.Event.{Event}
 use Rattle.c_forms.specs.declared.pieces.Event.TheVariants as event
 use Rattle.c_forms.specs.declared.pieces.Sort.{Sort}
 use Rattle.c_forms.specs.declared.pieces.Sort.TheVariants as s
@@ -27,12 +26,11 @@ use Rattle.c_forms.specs.Measures.{level, pieces, is_plain}
 use Rattle.c_forms.specs.Places.{stands}
 use Rattle.c_forms.specs.Rules.{is_none, in_first}
 use Rattle.c_forms.specs.Tokens.{held}
-use Rattle.c_forms.specs.Sets.{Classes, has, starts, element_starts, held_class}
+use Rattle.c_forms.specs.Sets.{Classes, has, starts, held_class}
 use Rattle.c_reader.specs.States.{State, happens, noted}
 use Rattle.c_reader.specs.Tokens.{Spot, step, turned, raw_at, class_at}
 use Rattle.c_syntax.specs.Allowed.{may_happen, may_stand, has_name, places}
 use Rattle.c_syntax.specs.Reading.{Before, Usual, before_by, is_missing, is_absent, inside, is_starred, spanned, the_list}
-
 
 -- the tokens from one spot to another spell a tree of a sort, of at least a level
 abbrev pub Spelling : Type 1
@@ -139,12 +137,12 @@ Levels true levels = levels
 Levels false levels = Unit {0}
 
 -- a declarator without a name has no name, and where one must have a name it is not absent
-abbrev is_declarator_of : Sort → DeclaratorForm → Bool
+abbrev pub is_declarator_of : Sort → DeclaratorForm → Bool
 is_declarator_of s.Declarator declarator.Absent = false
 is_declarator_of s.AbstractDeclarator declarator.Named = false
 is_declarator_of due f = true
 
-abbrev is_of : Sort → Form → Bool
+abbrev pub is_of : Sort → Form → Bool
 is_of due (form.Declarator f) = is_declarator_of due f
 is_of due f = true
 
@@ -170,7 +168,7 @@ wrapped_sort due = due
 
 -- In parentheses a declarator that need not have a name begins with `*`, `[` or `(`; and no expression begins with a
 -- word that is a type.
-abbrev nameless_starts : Classes
+abbrev pub nameless_starts : Classes
 nameless_starts = class_number (class.Punct punct.Star) ∷ class_number (class.Punct punct.LeftBracket) ∷ class_number (class.Punct punct.LeftParen) ∷ []
 
 abbrev pub BeginsWrapped : Sort → List Shape → Spot → Type 0
@@ -212,7 +210,7 @@ abbrev pub started_by : Bool → Spot → Spot
 started_by true i = turned (happens event.FunctionDue) i
 started_by false i = i
 
-abbrev is_function_form : Form → Bool
+abbrev pub is_function_form : Form → Bool
 is_function_form (form.Item item.Function) = true
 is_function_form f = false
 
@@ -221,7 +219,7 @@ has_no_specifiers t = is_function_form t.form && is_none (in_first t.parts)
 
 -- ---- what spells a tree where it stands
 
-abbrev is_ids : Form → Bool
+abbrev pub is_ids : Form → Bool
 is_ids (form.Params params.Ids) = true
 is_ids f = false
 

@@ -1,14 +1,15 @@
 -- What the table of words keeps, as words are declared and scopes are left.
-use Rattle.std.proofs.Common.{◌≡◌, refl, ap, sym, subst, ◌∙◌, ℕ, suc, ◌<◌, Bool, true, false, cond, List, [], ◌∷◌, ◌++◌, length, reverse, IsSome, Option, Some, None, nat_eq, unwrap_or, arith, true≢false, is_some, Result, Ok, Err, OnOk, OnErr}
+use Rattle.std.proofs.Common.{◌≡◌, refl, ap, sym, subst, ◌∙◌, ℕ, suc, ◌<◌, Bool, true, false, cond, List, [], ◌∷◌, ◌++◌, length, take, get_or, reverse, append_assoc, zero, ◌-◌, ◌≤◌, IsSome, Option, Some, None, nat_eq, unwrap_or, arith, true≢false, is_some, Result, Ok, Err, OnOk, OnErr}
 use Rattle.std.proofs.Math.Dec.{eqb}
 use Rattle.std.proofs.lemmas.Bool.Decides.{nat_tests}
 use Rattle.std.proofs.lemmas.List.{reverse-append, length-reverse}
 use Rattle.std.specs.Map.{lookup}
+use Rattle.c_tokens.specs.declared.token.Word.{Word}
 use Rattle.scope_tables.specs.declared.table.WordClass.{WordClass}
 use Rattle.scope_tables.specs.declared.table.WordClass.TheVariants.{Value}
 use Rattle.scope_tables.specs.declared.table.Step.{Step}
 use Rattle.scope_tables.specs.declared.table.Step.TheVariants.{Entered, Declared}
-use Rattle.scope_tables.specs.Frames.{Frame, class_of, declared, undone, is_bare, steps_in}
+use Rattle.scope_tables.specs.Frames.{Frame, class_of, declared, undone, is_bare, steps_in, innermost, words_in}
 use Rattle.scope_tables.specs.Log.{frames_from, AreKept, IsKept}
 
 -- frames are never none
@@ -131,3 +132,33 @@ steps_in_view log = steps_in_from (reverse log) ∙ length-reverse log
 
 pub deep_view : (log : List Step) → 0 < length (frames_from (reverse log))
 deep_view log = let f = some_frame (reverse log) in subst (λ frames. 0 < length frames) (sym f.2) (omega arith)
+
+-- the words of the innermost scope
+
+-- by the first steps of a log
+abbrev pub words_before : List Step → List (Word × WordClass)
+words_before steps = words_in (innermost (frames_from steps))
+
+words-declared : (word : ℕ) (class before : WordClass) (older : List Step) → words_before (Declared word class before ∷ older) ≡ (record { 0 = word }, class) ∷ words_before older
+words-declared word class before older =
+    let f = some_frame older in
+    subst (λ frames. words_in (innermost (declared word class frames)) ≡ (record { 0 = word }, class) ∷ words_in (innermost frames)) (sym f.2) refl
+
+-- the log read from its last step on
+take_more : (log : List Step) (at : ℕ) (step : Step) → at < length log → step ≡ get_or log at step → take (suc at) log ≡ take at log ++ step ∷ []
+take_more [] at step h e = absurd (omega arith)
+take_more (s ∷ log) zero step h e = ap (λ x. x ∷ []) (sym e)
+take_more (s ∷ log) (suc at) step h e = ap (λ xs. s ∷ xs) (take_more log at step (omega arith) e)
+
+words_more : (log : List Step) (at before : ℕ) (step is : Step) → 0 < at → at ≤ length log → before ≡ at - 1 → step ≡ get_or log before step → step ≡ is → words_before (reverse (take at log)) ≡ words_before (is ∷ reverse (take before log))
+words_more log at before step is h within b e i =
+    let more : at ≡ suc before = omega arith in
+    ap (λ n. words_before (reverse (take n log))) more
+    ∙ ap words_before (ap reverse (take_more log before step (omega arith) e) ∙ reverse-push (take before log) step)
+    ∙ ap (λ s. words_before (s ∷ reverse (take before log))) i
+
+pub words-step : (log : List Step) (at : ℕ) (step : Step) (word : ℕ) (class before : WordClass) (words new all : List (Word × WordClass)) → 0 < at → at ≤ length log → step ≡ get_or log (at - 1) step → step ≡ Declared word class before
+    → new ≡ words ++ (record { 0 = word }, class) ∷ [] → words ++ words_before (reverse (take at log)) ≡ all → new ++ words_before (reverse (take (at - 1) log)) ≡ all
+words-step log at step word class before words new all h within e i pushed same =
+    ap (λ xs. xs ++ words_before (reverse (take (at - 1) log))) pushed ∙ append_assoc words _ _
+    ∙ ap (λ xs. words ++ xs) (sym (words_more log at (at - 1) step (Declared word class before) h within refl e i ∙ words-declared word class before (reverse (take (at - 1) log)))) ∙ same

@@ -1,6 +1,7 @@
 -- Scopes with the words that are declared in them (ISO/IEC 9899:1990, 6.1.2.1).
 use Rattle.std.specs.Prelude.{ℕ, ◌+◌, Bool, true, false, List, [], ◌∷◌, length, Option, Some, None, nat_eq, unwrap_or}
 use Rattle.std.specs.Map.{lookup}
+use Rattle.c_tokens.specs.declared.token.Word.{Word}
 use Rattle.scope_tables.specs.declared.table.WordClass.{WordClass}
 use Rattle.scope_tables.specs.declared.table.WordClass.TheVariants.{TypeName, Value}
 
@@ -54,3 +55,13 @@ abbrev pub steps_in : List Frame → ℕ
 steps_in [] = 0
 steps_in (frame ∷ []) = length frame
 steps_in (frame ∷ inner ∷ outer) = length frame + 1 + steps_in (inner ∷ outer)
+
+-- the declarations of the innermost scope
+abbrev pub innermost : List Frame → Frame
+innermost [] = []
+innermost (frame ∷ outer) = frame
+
+-- the words of declarations
+abbrev pub words_in : Frame → List (Word × WordClass)
+words_in [] = []
+words_in ((word, class) ∷ frame) = (record { 0 = word }, class) ∷ words_in frame

@@ -1,7 +1,7 @@
 //! The words that are declared.
 
 ghost use Rattle.std.specs.Prelude.{◌≡◌, ◌<◌, [], ◌∷◌, length, OnOk, OnErr, IfOk};
-ghost use Rattle.scope_tables.specs.Frames.{class_of, class_named, entered, left, declared, undone, steps_in, is_bare};
+ghost use Rattle.scope_tables.specs.Frames.{class_of, class_named, entered, left, declared, undone, steps_in, is_bare, words_in, innermost};
 
 use c_tokens::{Memory, Word};
 use indexmap::IndexMap;
@@ -113,6 +113,22 @@ impl ScopeTable {
             Some(class) => *class,
             None => WordClass::Value,
         }
+    }
+
+    /// The words that are declared in the innermost scope, the latest first.
+    pub fn innermost(&self, alloc: Global) -> Result<Vec<(Word, WordClass)>, Memory>
+        ensures { IfOk result (λ words. words.items ≡ words_in (innermost self.now)) }
+    {
+        let mut words = Vec::new(alloc);
+        let mut at = self.log.len();
+        while at > 0 {
+            at -= 1;
+            match self.log[at] {
+                Step::Declared { word, class, .. } => words.push((Word(word), class))?,
+                Step::Entered => return Ok(words),
+            }
+        }
+        Ok(words)
     }
 
     /// The same scopes once more.

@@ -1,67 +1,60 @@
 //! Words by their numbers.
 
+ghost use Rattle.std.specs.Prelude.{◌≡◌, length, OnOk};
+
 use crate::{ScopeTable, WordClass};
-use c_tokens::Word;
+use c_tokens::{Memory, Word};
 use std::test::Fail;
 
-fn is_type(scopes: &ScopeTable, word: u32) -> bool {
-    scopes.class(Word(word)) == WordClass::TypeName
+fn is_type(table: &ScopeTable, word: u32) -> bool {
+    table.class(Word(word)) == WordClass::TypeName
 }
 
-#[test]
-fn the_innermost_declaration_counts(rt: HostRuntime) -> Result<(), Fail> {
-    let mut scopes = ScopeTable::new(rt.alloc());
-    assert!(rt; !is_type(&scopes, 7));
-    scopes.declare(Word(7), true)?;
-    scopes.declare(Word(8), true)?;
-    scopes.enter()?;
-    assert!(rt; is_type(&scopes, 7));
-    scopes.declare(Word(7), false)?;
-    assert!(rt; !is_type(&scopes, 7));
-    assert!(rt; is_type(&scopes, 8));
-    scopes.declare(Word(7), true)?;
-    assert!(rt; is_type(&scopes, 7));
-    scopes.declare(Word(7), false)?;
-    scopes.declare(Word(9), true)?;
-    scopes.leave();
-    assert!(rt; is_type(&scopes, 7));
-    assert!(rt; is_type(&scopes, 8));
-    assert!(rt; !is_type(&scopes, 9));
+/// Whether the words 7, 8 and 9 are types just where told.
+fn are_types(table: &ScopeTable, wanted: [bool; 3]) -> bool {
+    is_type(table, 7) == wanted[0]
+        && is_type(table, 8) == wanted[1]
+        && is_type(table, 9) == wanted[2]
+}
+
+/// Declares words, as types where told.
+#[tactic(auto, using(crate::proofs::Kept::length_declared))]
+fn declare_all(table: &mut ScopeTable, words: &[(u32, bool)]) -> Result<(), Memory>
+    ensures { OnOk result (length table.new ≡ length table.old) }
+{
+    for (word, is_type) in words {
+        table.declare(Word(*word), *is_type)?;
+    }
     Ok(())
 }
 
 #[test]
-fn a_copy_goes_its_own_way(rt: HostRuntime) -> Result<(), Fail> {
-    let mut scopes = ScopeTable::new(rt.alloc());
-    scopes.declare(Word(1), true)?;
-    scopes.enter()?;
-    scopes.declare(Word(1), false)?;
-    scopes.declare(Word(2), true)?;
-    let mut copy = scopes.copy()?;
-    for word in 0..4 {
-        assert_eq!(rt; scopes.class(Word(word)), copy.class(Word(word)));
-    }
+fn the_innermost_declaration_counts(rt: HostRuntime) -> Result<(), Fail> {
+    let mut table = ScopeTable::new(rt.alloc());
+    declare_all(&mut table, &[(7, true), (8, true)])?;
+    table.enter()?;
+    declare_all(&mut table, &[(7, true), (7, false), (9, true)])?;
+    let mut copy = table.copy()?;
+    table.leave();
+    assert!(rt; are_types(&table, [true, true, false]) && are_types(&copy, [false, true, true]));
     copy.leave();
-    assert!(rt; is_type(&copy, 1));
-    assert!(rt; !is_type(&copy, 2));
-    assert!(rt; !is_type(&scopes, 1));
-    assert!(rt; is_type(&scopes, 2));
+    assert!(rt; are_types(&copy, [true, true, false]));
     Ok(())
 }
 
 #[test]
 #[tactic(auto, using(crate::proofs::Kept::length_declared))]
 fn a_hundred_thousand_words_and_scopes(rt: HostRuntime) -> Result<(), Fail> {
-    let mut scopes = ScopeTable::new(rt.alloc());
+    let mut table = ScopeTable::new(rt.alloc());
     for word in 0..100_000 {
-        scopes.declare(Word(word), word % 2 == 0)?;
+        table.declare(Word(word), word % 2 == 0)?;
     }
     for word in 0..100_000 {
-        scopes.enter()?;
-        scopes.declare(Word(word), word % 2 == 1)?;
-        scopes.leave();
+        table.enter()?;
+        table.declare(Word(word), word % 2 == 1)?;
+        table.leave();
     }
-    assert!(rt; is_type(&scopes, 99_998));
-    assert!(rt; !is_type(&scopes, 99_999));
+    assert!(rt; is_type(&table, 99_998));
+    assert!(rt; !is_type(&table, 99_999));
     Ok(())
 }

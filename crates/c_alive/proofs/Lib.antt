@@ -1,0 +1,10 @@
+pub mod Tame
+pub mod Kept
+pub mod Groups
+pub mod Phrased
+pub mod Rows
+pub mod FitRows
+pub mod Climbs
+pub mod Tails
+pub mod Words
+pub mod Called

@@ -1,0 +1,185 @@
+-- What spells a declarator is read (ISO/IEC 9899:1990, 6.5.4).
+use Rattle.std.proofs.Common.{◌≡◌, ◌⊎◌, inl, inr, refl, subst, ap, sym, ◌∙◌, ℕ, ◌+◌, ◌<◌, ◌≤◌, nat_lt, Bool, true, false, ◌&&◌, List, [], ◌∷◌, Some, Ok, arith}
+use Rattle.std.proofs.lemmas.Bool.{lt-ltb}
+use borrow.Author.Tests.{ltb-false}
+use Rattle.c_tokens.specs.declared.token.Punct.{Punct}
+use Rattle.c_tokens.specs.declared.token.Punct.TheVariants as punct
+use Rattle.c_tokens.specs.declared.token.Shape.{Shape}
+use Rattle.c_tokens.specs.declared.token.Shape.TheVariants as shape
+use Rattle.c_tokens.specs.declared.class.Class.TheVariants as class
+use Rattle.c_tokens.specs.ClassNumbers.{class_number}
+use Rattle.c_forms.specs.declared.pieces.Event.TheVariants as event
+use Rattle.c_forms.specs.declared.pieces.Sort.TheVariants as s
+use Rattle.c_forms.specs.declared.pieces.Piece.{Piece}
+use Rattle.c_forms.specs.declared.forms.Form.{Form}
+use Rattle.c_forms.specs.declared.forms.Form.TheVariants as form
+use Rattle.c_forms.specs.Forests.{Plain}
+use Rattle.c_forms.specs.Forests as forests
+use Rattle.c_forms.specs.Measures.{level, pieces}
+use Rattle.c_forms.specs.Tokens.{continued}
+use Rattle.c_forms.specs.Sets.{has, given, goes_on, all_puncts}
+use Rattle.c_reader.specs.States.{class as class_in, happens}
+use Rattle.c_reader.specs.Tokens.{Spot, step, turned, raw_at, seen_at, class_at}
+use Rattle.c_reader.specs.Readers.{Reader, Body, Give, Refuse, Next, Fits, read, choose, when}
+use Rattle.c_reader.proofs.Local.{from}
+use Rattle.c_reader.proofs.Sets.{both, contrary, single}
+use Rattle.c_syntax.specs.Allowed.{places}
+use Rattle.c_syntax.specs.Reading.{Parts, called, is_starred, spanned, is_class, is_absent, Usual}
+use Rattle.c_syntax.specs.Grammar.{absent_at, the_declarator, opened_declarator, declarator_head, declarator_of, is_value, may_be_absent, may_be_named, Standing, standing, left_level, after_first, may_follow, tight, whole, parenthesized}
+use Rattle.c_syntax.specs.Spells.{Spelling, Is, Matches, Levels, parts_spelled, IsNode, Wraps, may_be, ValueWord, Parted}
+use Rattle.c_spelled.specs.Fitting.{parted, reads, follows, fitting, blank, needs, bound}
+use Rattle.c_spelled.specs.Operators.{unapt, loose, operands_fit}
+use Rattle.c_spelled.proofs.Off.{Off, on_here, off, off_both}
+use Rattle.c_spelled.proofs.Opens.{starts_so}
+use Rattle.c_spelled.proofs.Begins.{AllBegin}
+use Rattle.c_spelled.proofs.Groups.{Got}
+use Rattle.c_spelled.proofs.Pieces.{AllRead, is_it}
+use Rattle.c_spelled.proofs.Shapes.{is_punct}
+use Rattle.c_spelled.proofs.Nodes.{Room, off_within, whole_read}
+use Rattle.c_spelled.proofs.Levels.{off_unapt, off_operator, not_less}
+use Rattle.c_spelled.proofs.Alone.{declarator_is}
+use Rattle.c_spelled.proofs.Balance.{AllSame, group_same}
+use Rattle.c_spelled.proofs.Operands.{EndOff, apt_so}
+use Rattle.c_forms.specs.declared.pieces.Repetition.TheVariants.{Optional}
+use Rattle.c_forms.specs.declared.forms.DeclaratorForm.{DeclaratorForm}
+use Rattle.c_forms.specs.declared.forms.DeclaratorForm.TheVariants as declarator
+use Rattle.c_spelled.proofs.Climb.{AllCalled, called_read, in_parens, Tight, tight_in, stand, stands_at, tight_at, begin, longer, finish}
+use Rattle.c_spelled.proofs.Heads.{heads, Clear, RisesSo, There, seal_so, not_class}
+
+module _ (body : Body) (d top : ℕ) (w : List Shape) (levels : Type 0) (room : Room levels d top) (under : top ≤ d) (deeper inner : Spelling) (part : Parts)
+    (DB : AllBegin w deeper) (IB : AllBegin w inner) (DC : AllCalled body d top w deeper) (IE : AllRead body d top w 1 inner part) (ID : (least : ℕ) (t : Plain) (i j : Spot) → inner s.DeclaredId least t i j → ValueWord w t i)
+    (DS : AllSame deeper) (DT : (m : ℕ) (t : Plain) (i k : Spot) → deeper s.Declarator m t i k → There s.Declarator t i k)
+    (DN : (m : ℕ) (t : Plain) (i k : Spot) → deeper s.Declarator m t i k → is_absent t ≡ true → ⊥)
+    (DR : (m l : ℕ) (t : Plain) (i k : Spot) → deeper s.Declarator m t i k → l ≤ m → EndOff s.Declarator w m k → Clear s.Declarator w t k → RisesSo body d w part s.Declarator l top i t m k) where
+  abbrev DE : AllRead body d top w places deeper called
+  DE = called_read body d top w deeper DC
+
+  abbrev Here : Form → List Piece → List Plain → Spot → Spot → Type 0
+  Here f ps ts i j = Matches (parts_spelled (is_starred f) deeper inner) w s.Declarator f Usual ps ts i j
+
+  abbrev Goal : ℕ → ℕ → Form → List Plain → Spot → Spot → Type 0
+  Goal l m f parts i j = RisesSo body d w part s.Declarator l (top + 1) i (forests.node f (spanned i.place j.place) parts) m j
+
+  abbrev if_nothing : Spot → Reader Standing
+  if_nothing i = choose (may_be_absent s.Declarator) (Give (record { found = absent_at i.place; level = 17 })) Refuse
+
+  abbrev if_other : ℕ → Spot → Bool → Reader Standing
+  if_other l i b = choose b (tight l (the_declarator declarator.Pointer) (whole part s.Declarator (the_declarator declarator.Pointer)))
+      (choose (is_value (seen_at w i) && may_be_named s.Declarator) (standing 17 (whole part s.Declarator (the_declarator declarator.Named))) (if_nothing i))
+
+  at_head : (l : ℕ) (i : Spot) (b : Bool) → is_class (class.Punct punct.LeftParen) (seen_at w i) ≡ b → read body d (declarator_head part s.Declarator l) (from w i) ≡ read body d (choose b (opened_declarator s.Declarator i.place) (if_other l i (is_class (class.Punct punct.Star) (seen_at w i)))) (from w i)
+  unfolding declarator_head
+  at_head l i b e = ap (λ b. read body d (choose b (opened_declarator s.Declarator i.place) (if_other l i (is_class (class.Punct punct.Star) (seen_at w i)))) (from w i)) e
+
+  fits_here : (r : Reader Standing) (i : Spot) → levels → read body d (Fits 0 r) (from w i) ≡ read body d r (from w i)
+  fits_here r i l = ap (λ b. when b (read body d r (from w i)) i.place) (lt-ltb 0 d (room l).0)
+
+  node_of : (f : Form) (l : ℕ) (parts : List Plain) (i j : Spot) → Levels (is_starred f) levels → Off (unapt s.Declarator (level f)) w j.place → Here f (pieces f) parts i j → operands_fit s.Declarator f (pieces f) ≡ true → needs s.Declarator (pieces f) ≤ bound (is_starred f) 1
+      → Got (read body d (whole part s.Declarator f) (from w i)) top (forests.node f (spanned i.place j.place) parts) w j
+  node_of f l parts i j left o M F N =
+      let fit = both (reads s.Declarator (pieces f)) _ F in
+      let fit' = both (fitting s.Declarator f (pieces f)) _ fit.1 in
+      whole_read body d top w levels room 1 deeper inner part DB IB DE IE s.Declarator f parts i j left fit.0 N fit'.0 (off_within (follows s.Declarator (pieces f)) (unapt s.Declarator (level f)) w j.place fit'.1 o) M
+
+  looser : (m n l : ℕ) → m ≤ n → Tight n l → Tight m l
+  looser m n l e (inl k) = inl (omega (arith, e, k))
+  looser m n l e (inr k) = inr k
+
+  no_prefix : (l : ℕ) (k : Spot) → Tight 2 l → Off (given (nat_lt l 2) (goes_on s.Declarator l)) w k.place
+  no_prefix l k T = λ state. ap (λ b. has (given b (goes_on s.Declarator l)) (class_in state (raw_at w k.place))) (not_less l 2 (tight_in 2 l (omega arith) T))
+
+  by_operator : (f : Form) (p : Punct) (l m : ℕ) (parts : List Plain) (i j : Spot) → l ≤ m → m ≤ level f → level f ≡ 2 → levels → Off (unapt s.Declarator (level f)) w j.place
+      → (M : Parted (deeper s.Declarator 2) (λ t. Matches deeper w s.Declarator f Usual (after_first (pieces f))) parts i j)
+      → raw_at w M.place.place ≡ shape.Punct p → continued s.Declarator p ≡ Some f → left_level (pieces f) ≡ 2 → is_starred f ≡ true
+      → may_follow s.Declarator M.place.state M.first f ≡ true → Clear s.Declarator w M.first M.place → operands_fit s.Declarator f (after_first (pieces f)) ≡ true → nat_lt places (needs s.Declarator (after_first (pieces f))) ≡ false → blank s.Declarator Usual (after_first (pieces f)) ≡ false → Goal l m f parts i j
+  by_operator f p l m parts i j le high two left o M raw found left_is star follow clear F N bl =
+      let k : Spot = M.place in
+      let R : RisesSo body d w part s.Declarator l top i M.first 2 k = DR 2 l M.first i k M.is_first (omega (arith, le, high, two)) (λ l' T. off_both (given (nat_lt l' 2) (goes_on s.Declarator l')) (loose s.Declarator l' all_puncts) w k.place
+      (no_prefix l' k T) (off_operator s.Declarator l' p f w k raw found (apt_so f 2 l' (omega (arith, two)) (omega arith) left_is T))) clear in
+      let ahead : k.place < j.place = elim (starts_so w deeper DB s.Declarator f Usual (after_first (pieces f)) M.others k j (both (reads s.Declarator (after_first (pieces f))) _ F).0 M.are_others) [
+        | inl s ↦ s.less
+        | inr b ↦ absurd (contrary (blank s.Declarator Usual (after_first (pieces f))) b.may bl)
+      ] in
+      let X = longer body d w s.Declarator l i.place (λ _ _. Unit {0}) deeper top DB DE (declarator_head part s.Declarator l) i k j M.first M.others f 2 (after_first (pieces f)) p refl (room left) under R (omega arith) (omega (arith, le, high)) raw found left_is refl star follow F
+      (ltb-false places (needs s.Declarator (after_first (pieces f))) N) o M.are_others ahead in
+      let made : RisesSo body d w part s.Declarator l (top + 1) i (forests.node f (spanned i.place j.place) parts) (level f) j =
+      subst (λ ts. RisesSo body d w part s.Declarator l (top + 1) i (forests.node f (spanned i.place j.place) ts) (level f) j) (sym M.value) X in
+      record { level = made.level; tight = looser m (level f) made.level high made.tight; height = made.height; low = made.low; first = made.first; place = made.place; start = made.start; comes = made.comes; kept = made.kept }
+
+  -- a bracket or a parenthesis after nothing
+  sign_clear : (p : Punct) (t : Plain) (k : Spot) → Is w (class.Punct p) k → parted (class_number (class.Punct p) ∷ []) (heads s.Declarator) ≡ true → Clear s.Declarator w t k
+  sign_clear p t k c P _ = off (class_number (class.Punct p) ∷ []) (heads s.Declarator) w k.place P (on_here (class_number (class.Punct p) ∷ []) w k (single (class_number (class.Punct p)) (class_at w k) c))
+
+  paren_off : (k : Spot) → Is w (class.Punct punct.RightParen) k → Off (goes_on s.Declarator 1) w k.place
+  paren_off k c = off (class_number (class.Punct punct.RightParen) ∷ []) (goes_on s.Declarator 1) w k.place refl (on_here (class_number (class.Punct punct.RightParen) ∷ []) w k (single (class_number (class.Punct punct.RightParen)) (class_at w k) c))
+
+  array : (l m : ℕ) (parts : List Plain) (i j : Spot) → l ≤ m → m ≤ 2 → levels → Off (unapt s.Declarator 2) w j.place → Here (form.Declarator declarator.ArrayOf) (pieces (form.Declarator declarator.ArrayOf)) parts i j → Goal l m (form.Declarator declarator.ArrayOf) parts i j
+  array l m parts i j le high v o M =
+      let k : Spot = M.place in
+      let X = M.are_others.1.1 in
+      let S = group_same w deeper DS Optional s.Exp 3 Usual X.is_first.0 (turned (happens event.Aside) (step k)) X.place refl X.is_first.1.1 in
+      by_operator (form.Declarator declarator.ArrayOf) punct.LeftBracket l m parts i j le high refl v o M (is_punct k.state (raw_at w k.place) punct.LeftBracket M.are_others.0) refl refl refl
+      (seal_so k.state (k.state.kept ∷ k.state.aside) refl X.place.state S X.are_others.1.0) (sign_clear punct.LeftBracket M.first k M.are_others.0 refl) refl refl refl
+
+  function : (l m : ℕ) (parts : List Plain) (i j : Spot) → l ≤ m → m ≤ 2 → levels → Off (unapt s.Declarator 2) w j.place → Here (form.Declarator declarator.FunctionOf) (pieces (form.Declarator declarator.FunctionOf)) parts i j → Goal l m (form.Declarator declarator.FunctionOf) parts i j
+  function l m parts i j le high v o M = elim (DT 2 M.first i M.place M.is_first) [
+    | inl e ↦ by_operator (form.Declarator declarator.FunctionOf) punct.LeftParen l m parts i j le high refl v o M (is_punct M.place.state (raw_at w M.place.place) punct.LeftParen M.are_others.0) refl refl refl
+        refl (λ y. absurd (contrary (is_absent M.first) y e)) refl refl refl
+    | inr e ↦ absurd (DN 2 M.first i M.place M.is_first (ap is_absent e.1))
+  ]
+
+  decl_node : (g : DeclaratorForm) (l m : ℕ) (parts : List Plain) (i j : Spot) → l ≤ m → m ≤ level (form.Declarator g) → Levels (is_starred (form.Declarator g)) levels → Off (unapt s.Declarator (level (form.Declarator g))) w j.place
+      → Clear s.Declarator w (forests.node (form.Declarator g) (spanned i.place j.place) parts) j → may_be s.Declarator (form.Declarator g) ≡ true → Here (form.Declarator g) (pieces (form.Declarator g)) parts i j → Goal l m (form.Declarator g) parts i j
+  decl_node declarator.Named l m parts i j le high v o clear may M =
+      let f : Form = form.Declarator declarator.Named in
+      let G = node_of f l parts i j tt o M refl (omega arith) in
+      let c : class_at w i ≡ class_number class.Word = (ID 0 M.first i M.place M.is_first).1 in
+      begin body d w s.Declarator l i.place (λ _ _. Unit {0}) (declarator_head part s.Declarator l) (top + 1) i (forests.node f (spanned i.place j.place) parts) m G.height 17 j (inl high) (omega (arith, G.low))
+      (at_head l i false (not_class w (class.Punct punct.LeftParen) i (class_number class.Word) c refl) ∙ ap (λ b. read body d (if_other l i b) (from w i)) (not_class w (class.Punct punct.Star) i (class_number class.Word) c refl)
+      ∙ ap (λ b. read body d (choose (b && may_be_named s.Declarator) (standing 17 (whole part s.Declarator f)) (if_nothing i)) (from w i)) (is_it w class.Word i c)
+      ∙ stands_at body d w 17 (whole part s.Declarator f) top (forests.node f (spanned i.place j.place) parts) i j G) tt
+  decl_node declarator.Absent l m parts i j le high v o clear may M = absurd (cc may)
+  decl_node declarator.Pointer l m parts i j le high v o clear may M =
+      let f : Form = form.Declarator declarator.Pointer in
+      let G = node_of f l parts i j v o M refl (omega arith) in
+      begin body d w s.Declarator l i.place (λ _ _. Unit {0}) (declarator_head part s.Declarator l) (top + 1) i (forests.node f (spanned i.place j.place) parts) m G.height 1 j (inl high) (omega (arith, G.low))
+      (at_head l i false (not_class w (class.Punct punct.LeftParen) i (class_number (class.Punct punct.Star)) M.0 refl) ∙ ap (λ b. read body d (if_other l i b) (from w i)) (is_it w (class.Punct punct.Star) i M.0)
+      ∙ tight_at body d w l f (whole part s.Declarator f) top (forests.node f (spanned i.place j.place) parts) i j G (omega (arith, le, high))) tt
+  decl_node declarator.ArrayOf l m parts i j le high v o clear may M = array l m parts i j le high v o M
+  decl_node declarator.FunctionOf l m parts i j le high v o clear may M = function l m parts i j le high v o M
+
+  wrapped : (l m : ℕ) (t : Plain) (i j : Spot) → Wraps levels deeper w s.Declarator t i j → RisesSo body d w part s.Declarator l (top + 1) i t m j
+  wrapped l m t i j W =
+      let L = DC s.Declarator 1 t (step i) W.last refl W.within (paren_off W.last W.closes) in
+      let G : Got (read body d (parenthesized s.Declarator) (from w (step i))) top t w j = in_parens body d w s.Declarator top t (step i) W.last j L W.closes W.ends in
+      let S : read body d (standing 17 (parenthesized s.Declarator)) (from w (step i)) ≡ Ok (stand t G.height 17, from w j) = stands_at body d w 17 (parenthesized s.Declarator) top t (step i) j G in
+      begin body d w s.Declarator l i.place (λ _ _. Unit {0}) (declarator_head part s.Declarator l) (top + 1) i t m G.height 17 j (inr refl) (omega (arith, G.low))
+      (at_head l i true (is_it w (class.Punct punct.LeftParen) i W.opens) ∙ fits_here (Next (standing 17 (parenthesized s.Declarator))) i W.left ∙ S) tt
+
+  pub rises : (l m : ℕ) (t : Plain) (i j : Spot) → IsNode levels deeper inner w s.Declarator m t i j ⊎ Wraps levels deeper w s.Declarator t i j → l ≤ m → EndOff s.Declarator w m j → Clear s.Declarator w t j → RisesSo body d w part s.Declarator l (top + 1) i t m j
+  rises l m t i j (inl N) le o clear =
+      let g = declarator_is t.form N.may in
+      let M : (m ≤ level (form.Declarator g.0)) × (Levels (is_starred (form.Declarator g.0)) levels × ((may_be s.Declarator (form.Declarator g.0) ≡ true) × Here (form.Declarator g.0) (pieces (form.Declarator g.0)) N.parts i j)) =
+      subst (λ f. (m ≤ level f) × (Levels (is_starred f) levels × ((may_be s.Declarator f ≡ true) × Here f (pieces f) N.parts i j))) g.1 (N.tight, (N.left, (N.may, N.matches))) in
+      let same : forests.node (form.Declarator g.0) (spanned i.place j.place) N.parts ≡ t = ap (λ f. forests.node f (spanned i.place j.place) N.parts) (sym g.1) ∙ sym N.value in
+      subst (λ t. RisesSo body d w part s.Declarator l (top + 1) i t m j) same (decl_node g.0 l m N.parts i j le M.0 M.1.0 (o (level (form.Declarator g.0)) (inl M.0)) (λ e. clear (ap is_absent (sym same) ∙ e)) M.1.1.0 M.1.1.1)
+  rises l m t i j (inr W) le o clear = wrapped l m t i j W
+
+  end_off : (least : ℕ) (j : Spot) → Off (goes_on s.Declarator least) w j.place → EndOff s.Declarator w least j
+  end_off least j o l (inl le) = off_unapt s.Declarator least l w j.place refl le o
+  end_off least j o l (inr e) = subst (λ l. Off (unapt s.Declarator l) w j.place) (sym e) (λ _. refl)
+
+  no_absent : (g : DeclaratorForm) → may_be s.Declarator (form.Declarator g) ≡ true → is_absent (forests.node (form.Declarator g) (spanned 0 0) []) ≡ true → ⊥
+  no_absent declarator.Absent m e = cc m
+  no_absent declarator.Named m e = cc e
+  no_absent declarator.Pointer m e = cc e
+  no_absent declarator.ArrayOf m e = cc e
+  no_absent declarator.FunctionOf m e = cc e
+
+  clear_off : (least : ℕ) (t : Plain) (i j : Spot) → IsNode levels deeper inner w s.Declarator least t i j ⊎ Wraps levels deeper w s.Declarator t i j → Off (goes_on s.Declarator least) w j.place → Clear s.Declarator w t j
+  clear_off least t i j (inl N) o e = absurd (let g = declarator_is t.form N.may in no_absent g.0 (subst (λ f. may_be s.Declarator f ≡ true) g.1 N.may) (ap (λ f. is_absent (forests.node f (spanned 0 0) [])) (sym g.1) ∙ e))
+  clear_off least t i j (inr W) o e = absurd (contrary (is_absent t) e W.is_there)
+
+  pub declarator_read : (least : ℕ) (t : Plain) (i j : Spot) → IsNode levels deeper inner w s.Declarator least t i j ⊎ Wraps levels deeper w s.Declarator t i j → Off (goes_on s.Declarator least) w j.place → Got (read body d (declarator_of part s.Declarator least) (from w i)) top t w j
+  unfolding declarator_of
+  declarator_read least t i j A o = finish body d w s.Declarator least i.place (λ _ _. Unit {0}) (declarator_head part s.Declarator least) top i t least j refl (rises least least t i j A (omega arith) (end_off least j o) (clear_off least t i j A o)) o

@@ -1,0 +1,2 @@
+//! What is spelled in plain C90 is read.
+#![tactic(auto)]

@@ -1,0 +1,9 @@
+pub mod Starts
+pub mod Cursors
+pub mod Founds
+pub mod Codes
+pub mod Nests
+pub mod Sound
+pub mod Turns
+pub mod Filled
+pub mod Rights

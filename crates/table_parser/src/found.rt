@@ -1,0 +1,266 @@
+//! What is read: trees, and how high they are as they are spelled.
+
+ghost use Rattle.std.specs.Prelude.{◌≡◌, ◌≢◌, ◌<◌, ◌≤◌, ◌^◌, ◌+◌, ◌-◌, ◌∷◌, [], max, IfOk, IfErr, true};
+ghost use Rattle.c_forms.specs.Forests.{empty, forest};
+ghost use Rattle.c_forms.specs.Measures as measures;
+ghost use Rattle.c_forms.specs.Rules.{is_right};
+ghost use Rattle.c_reader.specs.declared.refusal.Refusal.TheVariants as refusal;
+ghost use Rattle.c_syntax.specs.Reading as reading;
+ghost use Rattle.table_parser.specs.Founds.{Bounded, is_none};
+
+use crate::decisions::is_starred;
+use c_forms::{DeclaratorForm, Form};
+use c_reader::Refusal;
+use c_tokens::Span;
+use c_trees::{Parts, Tree};
+use std::alloc::Global;
+use std::marker::Model;
+
+/// A tree, and its height as it is spelled: each pair of parentheses that is added counts one.
+#[derive(Drop)]
+pub struct Found {
+    tree: Tree,
+    height: usize,
+}
+
+impl Model for Found {
+    ghost use Rattle.c_reader.specs.Readers as readers;
+    ghost use Rattle.table_parser.specs.Codes.{found_code};
+
+    ghost Value = { readers.Found };
+
+    ghost coded = { found_code };
+
+    ghost view = { λ f. record { tree = f.tree; height = f.height } };
+}
+
+impl Found {
+    /// The node of one token, of a form that does not count for the height.
+    pub fn leaf(form: Form, place: usize) -> Found
+        requires place { place < 2 ^ 32 - 1 }
+        requires low { measures.star form ≡ 0 }
+        requires right { is_right form empty ≡ true }
+        ensures { result ≡ reading.node form place (place + 1) reading.nothing }
+    {
+        Found {
+            tree: Tree::leaf(form, spanned(place, place + 1)),
+            height: 0,
+        }
+    }
+
+    pub fn into_tree(self) -> Tree
+        ensures { result ≡ self.tree }
+    {
+        self.tree
+    }
+
+    pub fn height(&self) -> usize
+        ensures { result ≡ self.now.height }
+    {
+        self.height
+    }
+
+    /// The form of its node.
+    pub fn form(&self) -> Form
+        ensures { result ≡ self.now.tree.form }
+    {
+        self.tree.form()
+    }
+
+    /// As a part of a node that counts for the height.
+    pub fn deeper(self) -> Found
+        requires { self.height < 2 ^ 32 }
+        ensures { result ≡ reading.deeper self }
+    {
+        Found {
+            tree: self.tree,
+            height: self.height + 1,
+        }
+    }
+}
+
+/// Trees side by side, and the height that they have as parts.
+#[derive(Drop)]
+pub struct Listed {
+    trees: Parts,
+    height: usize,
+}
+
+impl Model for Listed {
+    ghost use Rattle.c_syntax.specs.Reading as reading;
+    ghost use Rattle.table_parser.specs.Codes.{listed_code};
+
+    ghost Value = { reading.Listed };
+
+    ghost coded = { listed_code };
+
+    ghost view = { λ g. record { trees = g.trees; height = g.height } };
+}
+
+impl Listed {
+    /// No trees.
+    pub fn nothing() -> Listed
+        ensures { result ≡ reading.nothing }
+    {
+        Listed {
+            trees: Parts::new(),
+            height: 0,
+        }
+    }
+
+    pub fn one(found: Found) -> Listed
+        ensures { result ≡ reading.one found }
+    {
+        Listed {
+            trees: Parts::one(found.tree),
+            height: found.height,
+        }
+    }
+
+    /// And one more after them.
+    pub fn with(self, alloc: Global, found: Found) -> Result<Listed, Refusal>
+        ensures with { IfOk result (λ all. all ≡ reading.joined self (reading.one found)) }
+        ensures refused { IfErr result (λ e. e ≡ refusal.Memory) }
+    {
+        let mut trees = self.trees;
+        match trees.push(alloc, found.tree) {
+            Ok(()) => Ok(Listed {
+                trees,
+                height: self.height.max(found.height),
+            }),
+            Err(_) => Err(Refusal::Memory),
+        }
+    }
+}
+
+/// The elements of a list so far, and the place after the last.
+#[derive(Drop)]
+pub struct Gathered {
+    trees: Parts,
+    height: usize,
+    last: usize,
+    /// whether the separator was read after it, before an end
+    is_ended: bool,
+}
+
+impl Model for Gathered {
+    ghost use Rattle.c_syntax.specs.Reading as reading;
+    ghost use Rattle.table_parser.specs.Codes.{gathered_code};
+
+    ghost Value = { reading.Gathered };
+
+    ghost coded = { gathered_code };
+
+    ghost view = { λ g. record { trees = g.trees; height = g.height; last = g.last; is_ended = g.is_ended } };
+}
+
+impl Gathered {
+    /// No elements, from a place on.
+    pub fn none_at(place: usize) -> Gathered
+        ensures { result ≡ reading.none_at place }
+    {
+        Gathered {
+            trees: Parts::new(),
+            height: 0,
+            last: place,
+            is_ended: false,
+        }
+    }
+
+    pub fn is_empty(&self) -> bool
+        ensures { result ≡ is_none self.now.trees }
+    {
+        self.trees.is_empty()
+    }
+
+    pub fn is_ended(&self) -> bool
+        ensures { result ≡ self.now.is_ended }
+    {
+        self.is_ended
+    }
+
+    /// The separator was read after the last element, before an end.
+    pub fn ended(self) -> Gathered
+        ensures { result ≡ reading.ended self }
+    {
+        Gathered {
+            trees: self.trees,
+            height: self.height,
+            last: self.last,
+            is_ended: true,
+        }
+    }
+
+    /// And one more element, before a place.
+    pub fn with_last(self, alloc: Global, found: Found, place: usize) -> Result<Gathered, Refusal>
+        ensures with { IfOk result (λ all. all ≡ reading.with_last self found place) }
+        ensures refused { IfErr result (λ e. e ≡ refusal.Memory) }
+    {
+        let mut trees = self.trees;
+        match trees.push(alloc, found.tree) {
+            Ok(()) => Ok(Gathered {
+                trees,
+                height: self.height.max(found.height),
+                last: place,
+                is_ended: false,
+            }),
+            Err(_) => Err(Refusal::Memory),
+        }
+    }
+
+    /// The list of the elements, from a place on.
+    pub fn list_from(self, alloc: Global, start: usize) -> Result<Found, Refusal>
+        requires start { start < 2 ^ 32 }
+        requires last { self.last < 2 ^ 32 }
+        ensures list { IfOk result (λ found. found ≡ reading.list_from start self) }
+        ensures refused { IfErr result (λ e. e ≡ refusal.Memory) }
+    {
+        match Tree::list(alloc, spanned(start, self.last), self.trees) {
+            Ok(tree) => Ok(Found {
+                tree,
+                height: self.height,
+            }),
+            Err(_) => Err(Refusal::Memory),
+        }
+    }
+}
+
+/// The node of a form over parts, from a place to another. Its parts are what the form asks for.
+#[tactic(auto, using(crate::proofs::Heights::low_node))]
+pub fn node(
+    alloc: Global,
+    form: Form,
+    start: usize,
+    end: usize,
+    parts: Listed,
+) -> Result<Found, Refusal>
+    requires start { start < 2 ^ 32 }
+    requires end { end < 2 ^ 32 }
+    requires low { max (measures.star form) parts.height ≤ 1000 }
+    requires covers { Bounded (measures.star form) 1000 parts.trees parts.height }
+    requires right { is_right form (forest parts.trees) ≡ true }
+    ensures node { IfOk result (λ found. found ≡ reading.node form start end parts) }
+    ensures refused { IfErr result (λ e. e ≡ refusal.Memory) }
+{
+    let height = if is_starred(form) {
+        parts.height.max(1)
+    } else {
+        parts.height
+    };
+    match Tree::new(alloc, form, spanned(start, end), parts.trees) {
+        Ok(tree) => Ok(Found { tree, height }),
+        Err(_) => Err(Refusal::Memory),
+    }
+}
+
+/// From a token to the one before another.
+fn spanned(start: usize, end: usize) -> Span
+    requires start { start < 2 ^ 32 }
+    requires end { end < 2 ^ 32 }
+    ensures { result ≡ reading.spanned start end }
+{
+    Span {
+        start: start as u32,
+        end: end as u32,
+    }
+}
