@@ -16,5 +16,5 @@ mod Words
 mod Functions
 mod Nodes
 mod Spelled
-mod Scoping
 mod Spans
+pub mod Scoping

@@ -1,14 +1,16 @@
 -- Whether a tree is scoped does not depend on its spans.
 use Rattle.std.proofs.Common.{◌≡◌, ◌≢◌, refl, ap, sym, ◌∙◌, Bool, true, false, ◌||◌, not, if◌then◌else◌, List, [], ◌∷◌, ◌++◌, Option, Some, None}
 use Rattle.c_tokens.specs.declared.span.Span.{Span}
+use Rattle.c_tokens.specs.declared.token.Word.{Word}
 use Rattle.c_forms.specs.declared.forms.Form.{Form}
 use Rattle.c_forms.specs.declared.forms.Form.TheVariants as form
 use Rattle.c_forms.specs.declared.forms.DeclaratorForm.TheVariants as declarator
 use Rattle.c_forms.specs.declared.forms.ParamsForm.TheVariants as params
-use Rattle.c_forms.specs.Forests.{Forest, empty, tree}
+use Rattle.c_forms.specs.Forests.{Plain, Forest, empty, tree}
 use Rattle.c_forms.specs.Rules.{in_first, after_first, is_name}
 use Rattle.c_forms.specs.Rules as Rules
 use Rattle.scope_tables.specs.declared.table.WordClass.{WordClass}
+use Rattle.scope_tables.specs.declared.table.WordClass.TheVariants.{Value}
 use Rattle.scope_tables.specs.Frames.{Frame, class_named, class_of, entered, left, declared}
 use Rattle.scope_meanings.specs.declared.meaning.NameUse.{NameUse}
 use Rattle.scope_meanings.specs.declared.meaning.NameUse.TheVariants as naming
@@ -18,9 +20,10 @@ use Rattle.scope_meanings.specs.declared.meaning.Name.{Name}
 use Rattle.scope_meanings.specs.Meanings.{meaning, inside, declares, name_in, name_at, or_next, has_type, has_typedef, is_typedef, checked_if, in_param}
 use Rattle.scopes.specs.declared.event.Event.{Event}
 use Rattle.scopes.specs.declared.event.Event.TheVariants.{Enter, Leave, Must, Declare}
-use Rattle.scopes.specs.Events.{declared_as, words, words_by, words_of_params, beside_at, beside_name}
+use Rattle.scopes.specs.Events.{in_order, scope, at_identifier, checked, declared_as, words, words_by, words_of_params, beside_at, beside_name, by_meaning, at_node, each, events, function, name_checked, body}
 use Rattle.scopes.specs.Settling.{Settled, Scoped, Clashes, settled, is_same}
-use Rattle.spelled_scopes.specs.Agreement.{no_span, unspanned}
+use Rattle.spelled_scopes.specs.Agreement.{no_span, unspanned, Alike}
+use Rattle.spelled_scopes.proofs.Words.{by_beside}
 
 -- ---- events without spans
 
@@ -151,3 +154,82 @@ beside_at_bare f ps inner others e = refl
 beside_bare : (t : Forest) → beside_name (unspanned t) ≡ beside_name t
 beside_bare empty = refl
 beside_bare (tree f sp ps rest) = ap (λ l. l ++ beside_name (unspanned rest)) (beside_at_bare f ps (beside_name (unspanned ps)) (beside_name ps) (beside_bare ps)) ∙ ap (λ l. beside_at f ps (beside_name ps) ++ l) (beside_bare rest)
+
+-- ---- events
+
+bare_word : (k : Option WordClass) (n : Option Name) → bare (declared_as k n) ≡ declared_as k n
+bare_word (Some k) (Some n) = refl
+bare_word (Some k) None = refl
+bare_word None n = refl
+
+bare_beside : (t : Forest) → bare (beside_name t) ≡ beside_name t
+bare_beside t = by_beside (λ ws. bare ws ≡ ws) refl (λ word k. refl) (λ vs ws p q. bare_on vs ws ∙ ap (λ l. l ++ bare ws) p ∙ ap (λ l. vs ++ l) q) t
+
+abbrev all_bare : List (List Event) → List (List Event)
+all_bare [] = []
+all_bare (es ∷ others) = bare es ∷ all_bare others
+
+bare_in_order : (all : List (List Event)) → bare (in_order all) ≡ in_order (all_bare all)
+bare_in_order [] = refl
+bare_in_order (es ∷ others) = bare_on es (in_order others) ∙ ap (λ l. bare es ++ l) (bare_in_order others)
+
+bare_scope : (es : List Event) → bare (scope es) ≡ scope (bare es)
+bare_scope es = ap (λ l. Enter ∷ l) (bare_on es (Leave ∷ []))
+
+bare_identifier : (u : NameUse) (word : Word) (sp : Span) → bare (at_identifier u word sp) ≡ at_identifier u word no_span
+bare_identifier naming.Checked word sp = refl
+bare_identifier naming.CheckedAndDeclared word sp = refl
+bare_identifier u word sp = refl
+
+bare_checked : (n : Option Name) → bare (checked n) ≡ checked (bare_name n)
+bare_checked (Some n) = refl
+bare_checked None = refl
+
+bare_choice : (b c : Bool) (x y : List Event) → b ≡ c → bare x ≡ y → bare (if b then [] else x) ≡ (if c then [] else y)
+bare_choice b true x y p q = ap (λ b. bare (if b then [] else x)) p
+bare_choice b false x y p q = ap (λ b. bare (if b then [] else x)) p ∙ q
+
+bare_name_checked : (ps : Forest) → bare (name_checked ps) ≡ name_checked (unspanned ps)
+bare_name_checked ps = bare_choice (has_type (in_first ps)) (has_type (in_first (unspanned ps))) (checked (name_in ps)) (checked (name_in (unspanned ps))) (sym (first_typed ps)) (bare_checked (name_in ps) ∙ ap checked (name_bare ps))
+
+bare_declared : (ps : Forest) → bare (declared_as (Some Value) (name_in ps)) ≡ declared_as (Some Value) (name_in (unspanned ps))
+bare_declared ps = bare_word (Some Value) (name_in ps) ∙ sym (declared_in (Some Value) ps)
+
+bare_body : (ps : Forest) (others : List (List Event)) → bare (body ps others) ≡ body (unspanned ps) (all_bare others)
+bare_body ps others = bare_scope (beside_name ps ++ in_order others) ∙ ap scope (bare_on (beside_name ps) (in_order others) ∙ ap (λ l. l ++ bare (in_order others)) (bare_beside ps ∙ sym (beside_bare ps)) ∙ ap (λ l. beside_name (unspanned ps) ++ l) (bare_in_order others))
+
+bare_function : (ps : Forest) (parts : List (List Event)) → bare (function ps parts) ≡ function (unspanned ps) (all_bare parts)
+bare_function ps [] = refl
+bare_function ps (specs ∷ []) = refl
+bare_function ps (specs ∷ (names ∷ others)) =
+    let last : List Event = declared_as (Some Value) (name_in ps) ++ body ps others in
+    bare_on specs (name_checked ps ++ (names ++ last)) ∙ ap (λ l. bare specs ++ l) (
+    bare_on (name_checked ps) (names ++ last) ∙ ap (λ l. l ++ bare (names ++ last)) (bare_name_checked ps) ∙ ap (λ l. name_checked (unspanned ps) ++ l) (
+    bare_on names last ∙ ap (λ l. bare names ++ l) (
+    bare_on (declared_as (Some Value) (name_in ps)) (body ps others) ∙ ap (λ l. l ++ bare (body ps others)) (bare_declared ps) ∙ ap (λ l. declared_as (Some Value) (name_in (unspanned ps)) ++ l) (bare_body ps others))))
+
+bare_by : (m : Meaning) (u : NameUse) (k : Option WordClass) (sp : Span) (ps : Forest) (parts : List (List Event)) → bare (by_meaning m u k sp ps parts) ≡ by_meaning m u k no_span (unspanned ps) (all_bare parts)
+bare_by means.Nothing u k sp ps parts = refl
+bare_by (means.Use word wanted) u k sp ps parts = refl
+bare_by (means.Identifier word) u k sp ps parts = bare_identifier u word sp
+bare_by means.Scope u k sp ps parts = bare_scope (in_order parts) ∙ ap scope (bare_in_order parts)
+bare_by means.Function u k sp ps parts = bare_function ps parts
+bare_by means.Parts u k sp ps parts = bare_on (in_order parts) (declared_as k (name_in ps)) ∙ ap (λ l. l ++ bare (declared_as k (name_in ps))) (bare_in_order parts) ∙ ap (λ l. in_order (all_bare parts) ++ l) (bare_word k (name_in ps) ∙ sym (declared_in k ps))
+
+bare_each : (u : NameUse) (t : Forest) → all_bare (each u t) ≡ each u (unspanned t)
+bare_each u empty = refl
+bare_each u (tree f sp ps rest) =
+    ap (λ e. e ∷ all_bare (each u rest)) (bare_by (meaning f) u (declares f u) sp ps (each (inside f u ps) ps)
+    ∙ ap (by_meaning (meaning f) u (declares f u) no_span (unspanned ps)) (bare_each (inside f u ps) ps ∙ ap (λ u. each u (unspanned ps)) (sym (inside_bare f u ps))))
+    ∙ ap (λ l. at_node u f no_span (unspanned ps) (each (inside f u (unspanned ps)) (unspanned ps)) ∷ l) (bare_each u rest)
+
+bare_events : (t : Plain) → bare (events t) ≡ events (record { form = t.form; span = no_span; parts = unspanned t.parts })
+bare_events t = bare_by (meaning t.form) naming.Nothing (declares t.form naming.Nothing) t.span t.parts (each (inside t.form naming.Nothing t.parts) t.parts)
+    ∙ ap (by_meaning (meaning t.form) naming.Nothing (declares t.form naming.Nothing) no_span (unspanned t.parts)) (bare_each (inside t.form naming.Nothing t.parts) t.parts ∙ ap (λ u. each u (unspanned t.parts)) (sym (inside_bare t.form naming.Nothing t.parts)))
+
+-- What is scoped is so with other spans.
+pub scoped_alike : (t v : Plain) (fs gs : List Frame) → Alike t v → settled (events t) fs ≡ Scoped gs → settled (events v) fs ≡ Scoped gs
+scoped_alike t v fs gs a e =
+    let same : bare (events t) ≡ bare (events v) = bare_events t ∙ ap (λ f. events (record { form = f; span = no_span; parts = unspanned t.parts })) a.0
+    ∙ ap (λ ps. events (record { form = v.form; span = no_span; parts = ps })) a.1 ∙ sym (bare_events v) in
+    from_bare (events v) fs gs (ap (λ es. settled es fs) (sym same) ∙ to_bare (events t) fs gs e)
