@@ -11,7 +11,6 @@ use Rattle.c_tokens.specs.declared.token.TheConstants.{MAX_WORD_BYTES}
 use Rattle.c_tokens.specs.Constants.{is_integer, is_floating}
 use Rattle.c_tokens.specs.Literals.{starts_literal, contents_start, quote_of, Met, inside, closing, spoiled, Ending, ending}
 use Rattle.c_tokens.specs.Skipped.{starts_comment, through_close, starts_directive, line_run, is_marker_line}
-use Rattle.c_tokens.specs.Runs.{opens}
 use Rattle.c_tokens.specs.Spelling.{Sort, keyword, punctuator, mark, word, integer, floating, character, string, Spelling, space, marker, token, refused, token_or, mark_or_refused, keyword_or, find_text, keywords, punctuators, sign_marks, word_marks, others_in, is_word, is_marked_word, is_number, is_space, word_spelling, number_spelling, closed_spelling, spoiled_spelling, ended_spelling, closed_comment, literal_spelling, comment_spelling, directive_spelling, stray_spelling, sign_spelling, plain_spelling, spelling_of}
 use Rattle.c_tokens.proofs.Opened.{ends_closed, ClosesLiteral}
 
@@ -31,7 +30,7 @@ record IsOfTexts (q : Spelling → Bool) : Type 0 where
 -- where a spelling that passes is found
 data From (q : Spelling → Bool) (t : List ℕ) : Type 0 where
   from_literal : starts_literal t ≡ true → of_some q (literal_spelling t) ≡ true → From q t
-  from_word : opens C90 t ≡ false → is_word t ≡ true → q (word_spelling t) ≡ true → From q t
+  from_word : is_word t ≡ true → q (word_spelling t) ≡ true → From q t
   from_number : is_number t ≡ true → q (number_spelling t) ≡ true → From q t
 
 module _ (q : Spelling → Bool) (h : IsOfTexts q) where
@@ -74,22 +73,21 @@ module _ (q : Spelling → Bool) (h : IsOfTexts q) where
       one_sign punctuator (find_text t punctuators) (token_or mark (find_text t sign_marks) other) h.no_punctuator
       (one_sign mark (find_text t sign_marks) other h.no_mark (one_sign punctuator (find_text t (others_in C90)) (stray_spelling t) h.no_punctuator (stray t)))
 
-  found : (t : List ℕ) (l c d w m n s : Bool) → starts_literal t ≡ l → starts_comment t ≡ c → starts_directive C90 t ≡ d → is_word t ≡ w → is_number t ≡ n
+  found : (t : List ℕ) (l c d w m n s : Bool) → starts_literal t ≡ l → is_word t ≡ w → is_number t ≡ n
       → of_some q (cond l (literal_spelling t) (cond c (comment_spelling t) (cond d (directive_spelling t)
       (cond w (Some (word_spelling t)) (cond m (Some (mark_or_refused (find_text t word_marks))) (cond n (Some (number_spelling t)) (cond s (Some space) (sign_spelling C90 t)))))))) ≡ true → From q t
-  unfolding opens
-  found t true c d w m n s el ec ed ew en e = from_literal el e
-  found t false true d w m n s el ec ed ew en e = absurd (let no = comment t in cc)
-  found t false false true w m n s el ec ed ew en e = absurd (let no = directive t in cc)
-  found t false false false true m n s el ec ed ew en e = from_word (ap (λ x. x || starts_comment t || starts_directive C90 t) el ∙ ap (λ x. x || starts_directive C90 t) ec ∙ ed) ew e
-  found t false false false false true n s el ec ed ew en e = absurd (let no = marked (find_text t word_marks) in cc)
-  found t false false false false false true s el ec ed ew en e = from_number en e
-  found t false false false false false false true el ec ed ew en e = absurd (let no = h.no_space in cc)
-  found t false false false false false false false el ec ed ew en e = absurd (let no = sign t in cc)
+  found t true c d w m n s el ew en e = from_literal el e
+  found t false true d w m n s el ew en e = absurd (let no = comment t in cc)
+  found t false false true w m n s el ew en e = absurd (let no = directive t in cc)
+  found t false false false true m n s el ew en e = from_word ew e
+  found t false false false false true n s el ew en e = absurd (let no = marked (find_text t word_marks) in cc)
+  found t false false false false false true s el ew en e = from_number en e
+  found t false false false false false false true el ew en e = absurd (let no = h.no_space in cc)
+  found t false false false false false false false el ew en e = absurd (let no = sign t in cc)
 
   from : (t : List ℕ) → of_some q (spelling_of C90 t) ≡ true → From q t
   unfolding spelling_of plain_spelling
-  from t e = found t (starts_literal t) (starts_comment t) (starts_directive C90 t) (is_word t) (is_marked_word t) (is_number t) (is_space t) refl refl refl refl refl e
+  from t e = found t (starts_literal t) (starts_comment t) (starts_directive C90 t) (is_word t) (is_marked_word t) (is_number t) (is_space t) refl refl refl e
 
 -- ---- the three tests
 
@@ -138,11 +136,6 @@ module _ (q : Spelling → Bool) (h : IsOfTexts q) (no_character : q (token char
 
 -- ---- words
 
--- what a word's text is
-pub record IsWordText (t : List ℕ) : Type 0 where
-  pub opens_none : opens C90 t ≡ false
-  pub is_so : is_word t ≡ true
-
 number_no_word : (t : List ℕ) (i f : Bool) → is_word_spelling (cond i (token integer) (cond f (token floating) (refused 0 cause.BadNumber))) ≡ false
 number_no_word t true f = refl
 number_no_word t false true = refl
@@ -152,12 +145,12 @@ number_spelling_no_word : (t : List ℕ) → is_word_spelling (number_spelling t
 unfolding number_spelling
 number_spelling_no_word t = number_no_word t (is_integer t) (is_floating t)
 
-word_from : (t : List ℕ) → From is_word_spelling t → IsWordText t
+word_from : (t : List ℕ) → From is_word_spelling t → is_word t ≡ true
 word_from t (from_literal l e) = absurd (let no = literal_no is_word_spelling of_words refl refl t in cc)
-word_from t (from_word o w e) = record { opens_none = o; is_so = w }
+word_from t (from_word w e) = w
 word_from t (from_number n e) = absurd (let no = number_spelling_no_word t in cc)
 
-pub word-text : (t : List ℕ) → spelling_of C90 t ≡ Some (token word) → IsWordText t
+pub word-text : (t : List ℕ) → spelling_of C90 t ≡ Some (token word) → is_word t ≡ true
 word-text t e = word_from t (from is_word_spelling of_words t (ap (of_some is_word_spelling) e))
 
 -- ---- numbers
@@ -173,7 +166,7 @@ word_spelling_no_number t = word_no_number (find_text t keywords) (nat_le (lengt
 
 number_from : (t : List ℕ) → From is_number_spelling t → is_number t ≡ true
 number_from t (from_literal l e) = absurd (let no = literal_no is_number_spelling of_numbers refl refl t in cc)
-number_from t (from_word o w e) = absurd (let no = word_spelling_no_number t in cc)
+number_from t (from_word w e) = absurd (let no = word_spelling_no_number t in cc)
 number_from t (from_number n e) = n
 
 pub integer-text : (t : List ℕ) → spelling_of C90 t ≡ Some (token integer) → is_number t ≡ true
@@ -227,7 +220,7 @@ unfolding literal_spelling
 literal_from t (from_literal l e) =
     let h = ended t (ending t).place (ending t).found e in
     record { place = (ending t).place; last = h.0; literal = l; ends = ap (λ m. record { place = (ending t).place; found = m }) h.1 }
-literal_from t (from_word o w e) = absurd (let no = word_spelling_no_literal t in cc)
+literal_from t (from_word w e) = absurd (let no = word_spelling_no_literal t in cc)
 literal_from t (from_number n e) = absurd (let no = number_spelling_no_literal t in cc)
 
 pub character-text : (t : List ℕ) → spelling_of C90 t ≡ Some (token character) → IsLiteralText t
