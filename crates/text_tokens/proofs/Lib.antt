@@ -1,3 +1,6 @@
 pub mod Sorts
 pub mod Literals
 pub mod Longer
+pub mod Pieces
+pub mod Apart
+pub mod Lexed

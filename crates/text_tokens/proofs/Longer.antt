@@ -238,7 +238,7 @@ before_text : (p : Punct) (c : ℕ) → is_text_byte c ≡ true → (is_dot p &&
 before_text p c h d = punct_no_longer p c (and_false (is_slash p) (nat_eq c 42) (text_byte_no_star c h)) d (λ r. no_text_byte (text_of_punct p ++ c ∷ r) (has_it (text_of_punct p) c r h))
 
 -- the first byte of a keyword, a word or a literal
-pub is_text_start : ℕ → Bool
+unfoldable pub is_text_start : ℕ → Bool
 is_text_start b = is_letter b || is_quote b
 
 start_is_text : (c : ℕ) → is_text_start c ≡ true → is_text_byte c ≡ true
