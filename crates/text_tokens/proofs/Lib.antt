@@ -4,3 +4,4 @@ pub mod Longer
 pub mod Pieces
 pub mod Apart
 pub mod Lexed
+pub mod Close

@@ -8,6 +8,7 @@ use Rattle.c_tokens.specs.declared.token.Shape.TheVariants as s
 use Rattle.c_tokens.specs.Bytes.{is_digit, is_sign}
 use Rattle.c_tokens.specs.Spelling.{punctuators}
 use Rattle.c_layout.specs.declared.marks.Use.{Use}
+use Rattle.c_layout.specs.declared.marks.Use.TheVariants as use_as
 use Rattle.c_layout.specs.declared.marks.Mark.{Mark}
 use Rattle.c_layout.specs.declared.marks.Mark.TheVariants as mark
 use Rattle.c_text.specs.Texts.{text_of_punct}
@@ -79,3 +80,46 @@ abbrev pub AllSet : List Mark → Type 0
 AllSet [] = Unit {0}
 AllSet (mark.Line depth ∷ ms) = AllSet ms
 AllSet (mark.Token a u ∷ ms) = NextIsSet a u ms × AllSet ms
+
+-- Pairs of tokens that would stand side by side as another spelling: a point before what begins with a point, or before
+-- a number; `*` or `!` before `=` as a prefix operator; `+` before a postfix `++`, and `-` before a postfix `--` or `->`.
+abbrev pub goes_on_point : Shape → Bool
+goes_on_point (s.Int n) = true
+goes_on_point (s.Float n) = true
+goes_on_point (s.Punct punct.Dot) = true
+goes_on_point (s.Punct punct.Ellipsis) = true
+goes_on_point _ = false
+
+abbrev pub is_equal_prefix : Shape → Use → Bool
+is_equal_prefix (s.Punct punct.Equal) use_as.Prefix = true
+is_equal_prefix (s.Punct punct.EqualEqual) use_as.Prefix = true
+is_equal_prefix _ _ = false
+
+abbrev pub is_minus_suffix : Shape → Use → Bool
+is_minus_suffix (s.Punct punct.Arrow) v = true
+is_minus_suffix (s.Punct punct.MinusMinus) use_as.Postfix = true
+is_minus_suffix _ _ = false
+
+abbrev pub is_plus_suffix : Shape → Use → Bool
+is_plus_suffix (s.Punct punct.PlusPlus) use_as.Postfix = true
+is_plus_suffix _ _ = false
+
+abbrev pub is_merged : Shape → Shape → Use → Bool
+is_merged (s.Punct punct.Dot) b v = goes_on_point b
+is_merged (s.Punct punct.Star) b v = is_equal_prefix b v
+is_merged (s.Punct punct.Exclamation) b v = is_equal_prefix b v
+is_merged (s.Punct punct.Minus) b v = is_minus_suffix b v
+is_merged (s.Punct punct.Plus) b v = is_plus_suffix b v
+is_merged _ b v = false
+
+-- the mark after a token, if it is a token on the same line
+abbrev pub NextIsFree : Shape → List Mark → Type 0
+NextIsFree a [] = Unit {0}
+NextIsFree a (mark.Line depth ∷ ms) = Unit {0}
+NextIsFree a (mark.Token b v ∷ ms) = is_merged a b v ≡ false
+
+-- no two neighbours among marks are such a pair
+abbrev pub AllFree : List Mark → Type 0
+AllFree [] = Unit {0}
+AllFree (mark.Line depth ∷ ms) = AllFree ms
+AllFree (mark.Token a u ∷ ms) = NextIsFree a ms × AllFree ms
