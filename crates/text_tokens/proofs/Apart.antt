@@ -12,7 +12,7 @@ use Rattle.c_tokens.specs.Literals.{starts_literal, starts_with_quote, starts_wi
 use Rattle.c_tokens.specs.Spelling.{punctuators, is_word, is_number}
 use Rattle.c_tokens.proofs.Tables.{and_true, not_true}
 use Rattle.c_text.specs.Texts.{text_of_key, text_of_punct, text_of_word, text_of_shape}
-use Rattle.text_tokens.specs.Written.{IsSpelled, IsWritten}
+use Rattle.text_tokens.specs.Written.{IsWritten}
 use Rattle.text_tokens.specs.Neighbours.{first_byte, is_dot, is_slash, begins_none, ends_punct, goes_on_number, ends_word, ends_number, ends_sign, is_apart}
 use Rattle.text_tokens.proofs.Sorts.{word-text, integer-text, floating-text, character-text, string-text, IsLiteralText}
 use Rattle.text_tokens.proofs.Literals.{literal-no_longer}

@@ -1,5 +1,5 @@
 -- What stands side by side is apart, but for the pairs that go on one another.
-use Rattle.std.proofs.Common.{◌≡◌, refl, ap, sym, ◌∙◌, ℕ, Bool, true, false, ◌&&◌, ◌||◌, not, nat_eq, List, [], ◌∷◌}
+use Rattle.std.proofs.Common.{◌≡◌, refl, ap, sym, ◌∙◌, ℕ, Bool, true, false, ◌&&◌, ◌||◌, not, List, [], ◌∷◌}
 use Rattle.std.specs.List.{IsDistinct}
 use Rattle.std.specs.Prelude.{bytes_eq}
 use Rattle.c_tokens.specs.declared.token.Punct.{Punct}
@@ -15,9 +15,9 @@ use Rattle.c_layout.specs.declared.marks.Mark.{Mark}
 use Rattle.c_layout.specs.declared.marks.Mark.TheVariants as mark
 use Rattle.c_layout.specs.Spelled.{tokens_among}
 use Rattle.c_text.specs.Text.{text}
-use Rattle.c_text.specs.Spacing.{is_opening, is_closing, is_member_sign, is_number, is_operand_start, is_short_operator, is_call_paren, is_label_colon, is_postfix, is_leading, is_close_operand, is_trailing, is_close}
+use Rattle.c_text.specs.Spacing.{is_opening, is_closing, is_member_sign, is_number, is_operand_start, is_short_operator, is_call_paren, is_label_colon, is_leading, is_close_operand, is_trailing, is_close}
 use Rattle.text_tokens.specs.Written.{IsWritten, AllWritten, HasTokens}
-use Rattle.text_tokens.specs.Neighbours.{first_byte, is_dot, ends_punct, goes_on_number, ends_number, ends_sign, is_apart, IsSet, NextIsSet, AllSet, is_merged, goes_on_point, is_equal_prefix, is_minus_suffix, is_plus_suffix, NextIsFree, AllFree}
+use Rattle.text_tokens.specs.Neighbours.{first_byte, is_dot, ends_punct, goes_on_number, ends_sign, is_apart, IsSet, NextIsSet, AllSet, is_merged, goes_on_point, is_equal_prefix, NextIsFree, AllFree}
 use Rattle.text_tokens.proofs.Lexed.{text-tokens}
 
 -- a token of plain C

@@ -27,7 +27,7 @@ use Rattle.c_layout.specs.declared.marks.Mark.TheVariants as mark
 use Rattle.c_layout.specs.Spelled.{tokens_among}
 use Rattle.c_text.specs.Texts.{text_of_key, text_of_punct, text_of_word, text_of_shape}
 use Rattle.c_text.specs.Spacing.{is_close}
-use Rattle.c_text.specs.Text.{line_end, indentation, gap, text_of_mark, text_after, text}
+use Rattle.c_text.specs.Text.{line_end, indentation, gap, text_after, text}
 use Rattle.text_tokens.specs.Written.{IsSpelled, IsWritten, AllWritten, HasTokens}
 use Rattle.text_tokens.specs.Neighbours.{IsSet, NextIsSet, AllSet}
 use Rattle.text_tokens.proofs.Longer.{NoLonger}

@@ -1,5 +1,5 @@
 -- By which test a token is found: what a text is that stands for a word, a number or a literal.
-use Rattle.std.proofs.Common.{◌≡◌, refl, ap, sym, ◌∙◌, ℕ, ◌+◌, ◌-◌, Bool, true, false, ◌||◌, nat_eq, nat_le, cond, List, [], ◌∷◌, length, take, drop, Option, Some, None}
+use Rattle.std.proofs.Common.{◌≡◌, refl, ap, ℕ, ◌+◌, ◌-◌, Bool, true, false, ◌||◌, nat_eq, nat_le, cond, List, [], ◌∷◌, length, take, drop, Option, Some, None}
 use Rattle.std.proofs.lemmas.Bool.{eqb-true}
 use Rattle.c_tokens.specs.declared.lexical.Dialect.TheVariants.{C90}
 use Rattle.c_tokens.specs.declared.lexical.LexCause.{LexCause}
@@ -9,10 +9,10 @@ use Rattle.c_tokens.specs.declared.token.Punct.{Punct}
 use Rattle.c_tokens.specs.declared.token.Mark.{Mark}
 use Rattle.c_tokens.specs.declared.token.TheConstants.{MAX_WORD_BYTES}
 use Rattle.c_tokens.specs.Constants.{is_integer, is_floating}
-use Rattle.c_tokens.specs.Literals.{starts_literal, contents_start, quote_of, Met, inside, closing, spoiled, Ending, ending}
+use Rattle.c_tokens.specs.Literals.{starts_literal, contents_start, quote_of, Met, inside, closing, spoiled, ending}
 use Rattle.c_tokens.specs.Skipped.{starts_comment, through_close, starts_directive, line_run, is_marker_line}
 use Rattle.c_tokens.specs.Spelling.{Sort, keyword, punctuator, mark, word, integer, floating, character, string, Spelling, space, marker, token, refused, token_or, mark_or_refused, keyword_or, find_text, keywords, punctuators, sign_marks, word_marks, others_in, is_word, is_marked_word, is_number, is_space, word_spelling, number_spelling, closed_spelling, spoiled_spelling, ended_spelling, closed_comment, literal_spelling, comment_spelling, directive_spelling, stray_spelling, sign_spelling, plain_spelling, spelling_of}
-use Rattle.c_tokens.proofs.Opened.{ends_closed, ClosesLiteral}
+use Rattle.c_tokens.proofs.Opened.{ends_closed}
 
 abbrev of_some : (Spelling → Bool) → Option Spelling → Bool
 of_some q None = false
