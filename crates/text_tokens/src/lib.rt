@@ -1,0 +1,2 @@
+//! The text of marks has the tokens of the marks.
+#![tactic(auto)]
