@@ -5,3 +5,4 @@ pub mod Pieces
 pub mod Apart
 pub mod Lexed
 pub mod Close
+pub mod Marks
