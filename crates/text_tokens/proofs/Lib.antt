@@ -6,3 +6,4 @@ pub mod Apart
 pub mod Lexed
 pub mod Close
 pub mod Marks
+pub mod Prefixes
