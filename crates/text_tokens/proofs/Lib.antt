@@ -7,3 +7,4 @@ pub mod Lexed
 pub mod Close
 pub mod Marks
 pub mod Prefixes
+pub mod Layouts

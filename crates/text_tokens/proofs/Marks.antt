@@ -1,6 +1,6 @@
 -- What holds of the tokens that the rows name holds of each mark of a layout.
 use Rattle.std.proofs.Common.{ℕ, ◌+◌, Bool, true, false, nat_lt, cond, List, [], ◌∷◌, ◌++◌}
-use Rattle.c_tokens.specs.declared.token.Punct.TheVariants.{LeftParen, RightParen}
+use Rattle.c_tokens.specs.declared.token.Punct.TheVariants.{RightParen}
 use Rattle.c_forms.specs.declared.pieces.Piece.{Piece}
 use Rattle.c_forms.specs.declared.pieces.Piece.TheVariants.{Token, Maybe, Own, TypeTokens, KindName, One, Group, Rest, Anything, Then}
 use Rattle.c_forms.specs.declared.forms.Form.{Form}
@@ -14,7 +14,7 @@ use Rattle.c_layout.specs.declared.standing.GroupStanding.{GroupStanding}
 use Rattle.c_layout.specs.declared.standing.GroupStanding.TheVariants as stand
 use Rattle.c_layout.specs.Marks.{line, plain, separator_of, shape_of, token_in, if_any}
 use Rattle.c_layout.specs.Standing.{standing_of_part, standing_of_group, is_block, follows_else}
-use Rattle.c_layout.specs.Layout.{Head, Laid, heads, enclosed, placed, body, part, start, others, joined, inside, elements, put, laid, laid_at, layout}
+use Rattle.c_layout.specs.Layout.{Head, Laid, heads, enclosed, placed, body, part, start, others, joined, inside, elements, put, laid, layout}
 use Rattle.text_tokens.specs.Marks.{All, AllOfPieces, AllOfRows, OfAdded}
 
 module _ (P : Mark → Type 0) (added : OfAdded P) where

@@ -27,7 +27,7 @@ use Rattle.c_layout.specs.declared.marks.Mark.TheVariants as mark
 use Rattle.c_layout.specs.Marks.{use_at_paren, use_at_colon, use_of, separator_of, shape_of, token_in, if_any}
 use Rattle.c_layout.specs.Layout.{layout}
 use Rattle.text_tokens.specs.Neighbours.{is_equal_prefix}
-use Rattle.text_tokens.specs.Marks.{All, AllOfPieces, AllOfRows, OfAdded}
+use Rattle.text_tokens.specs.Marks.{All, AllOfPieces, AllOfRows}
 use Rattle.text_tokens.proofs.Marks.{layout-all}
 
 -- a mark that is no `=` or `==` as a prefix operator

@@ -8,7 +8,9 @@ use Rattle.c_forms.specs.Forests.{Forest, empty, tree}
 use Rattle.c_forms.specs.Measures.{pieces}
 use Rattle.c_forms.specs.Tokens.{held}
 use Rattle.c_layout.specs.declared.marks.Mark.{Mark}
+use Rattle.c_layout.specs.declared.marks.Mark.TheVariants as mark
 use Rattle.c_layout.specs.Marks.{line, plain, separator_of, shape_of, token_in, if_any}
+use Rattle.text_tokens.specs.Written.{IsWritten}
 
 -- of each mark
 abbrev pub All : (Mark → Type 0) → List Mark → Type 0
@@ -39,3 +41,8 @@ pub record OfAdded (P : Mark → Type 0) : Type 0 where
   pub lines : (depth : ℕ) → P (line depth)
   pub opening : P (plain LeftParen)
   pub closing : P (plain RightParen)
+
+-- a mark whose token, if it is one, is written
+abbrev pub IsWrittenMark : List (List ℕ) → Mark → Type 0
+IsWrittenMark names (mark.Line depth) = Unit {0}
+IsWrittenMark names (mark.Token a u) = IsWritten names a
