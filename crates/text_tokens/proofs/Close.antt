@@ -297,6 +297,20 @@ close-apart a u b v h m e =
     (λ c. let both = and_true (is_leading a u) (is_close_operand a b v) c in operator_apart a u b v m both.0 both.1)
     (λ c. let both = and_true (is_trailing b v) (not (is_number a)) c in trailing_apart a b v h m both.0 both.1)
 
+star_close : (b : Shape) (v : Use) → is_equal_prefix b v ≡ true → (is_close (s.Punct punct.Star) use_as.Prefix b v ≡ true) × (ends_sign punct.Star b ≡ false)
+unfolding punctuators
+star_close (s.Punct punct.Equal) use_as.Prefix m = (refl, refl)
+star_close (s.Punct punct.EqualEqual) use_as.Prefix m = (refl, refl)
+star_close _ use_as.Prefix m = absurd cc
+star_close b _ m = absurd cc
+
+exclamation_close : (b : Shape) (v : Use) → is_equal_prefix b v ≡ true → (is_close (s.Punct punct.Exclamation) use_as.Prefix b v ≡ true) × (ends_sign punct.Exclamation b ≡ false)
+unfolding punctuators
+exclamation_close (s.Punct punct.Equal) use_as.Prefix m = (refl, refl)
+exclamation_close (s.Punct punct.EqualEqual) use_as.Prefix m = (refl, refl)
+exclamation_close _ use_as.Prefix m = absurd cc
+exclamation_close b _ m = absurd cc
+
 -- and each such pair stands side by side, after a prefix operator if need be, and is not apart
 pub merged-close : (a b : Shape) (v : Use) → is_merged a b v ≡ true → (is_close a use_as.Prefix b v ≡ true) × (is_apart a b ≡ false)
 unfolding punctuators is_digit
@@ -304,10 +318,8 @@ merged-close (s.Punct punct.Dot) (s.Int n) v m = (refl, refl)
 merged-close (s.Punct punct.Dot) (s.Float n) v m = (refl, refl)
 merged-close (s.Punct punct.Dot) (s.Punct punct.Dot) v m = (refl, refl)
 merged-close (s.Punct punct.Dot) (s.Punct punct.Ellipsis) v m = (refl, refl)
-merged-close (s.Punct punct.Star) (s.Punct punct.Equal) use_as.Prefix m = (refl, refl)
-merged-close (s.Punct punct.Star) (s.Punct punct.EqualEqual) use_as.Prefix m = (refl, refl)
-merged-close (s.Punct punct.Exclamation) (s.Punct punct.Equal) use_as.Prefix m = (refl, refl)
-merged-close (s.Punct punct.Exclamation) (s.Punct punct.EqualEqual) use_as.Prefix m = (refl, refl)
+merged-close (s.Punct punct.Star) b v m = star_close b v m
+merged-close (s.Punct punct.Exclamation) b v m = exclamation_close b v m
 merged-close (s.Punct punct.Minus) (s.Punct punct.Arrow) use_as.Plain m = (refl, refl)
 merged-close (s.Punct punct.Minus) (s.Punct punct.Arrow) use_as.Prefix m = (refl, refl)
 merged-close (s.Punct punct.Minus) (s.Punct punct.Arrow) use_as.Pointer m = (refl, refl)

@@ -5,3 +5,6 @@ pub mod Pieces
 pub mod Apart
 pub mod Lexed
 pub mod Close
+pub mod Marks
+pub mod Prefixes
+pub mod Layouts

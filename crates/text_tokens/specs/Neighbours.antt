@@ -90,10 +90,14 @@ goes_on_point (s.Punct punct.Dot) = true
 goes_on_point (s.Punct punct.Ellipsis) = true
 goes_on_point _ = false
 
+abbrev pub is_equal : Shape → Bool
+is_equal (s.Punct punct.Equal) = true
+is_equal (s.Punct punct.EqualEqual) = true
+is_equal _ = false
+
 abbrev pub is_equal_prefix : Shape → Use → Bool
-is_equal_prefix (s.Punct punct.Equal) use_as.Prefix = true
-is_equal_prefix (s.Punct punct.EqualEqual) use_as.Prefix = true
-is_equal_prefix _ _ = false
+is_equal_prefix b use_as.Prefix = is_equal b
+is_equal_prefix b _ = false
 
 abbrev pub is_minus_suffix : Shape → Use → Bool
 is_minus_suffix (s.Punct punct.Arrow) v = true
