@@ -74,9 +74,6 @@ unfolding is_word is_letter is_word_byte
 key_is_word key.Auto = refl
 key_is_word _ = refl
 
-not_both : (a b : Bool) → not (a && b) ≡ true → (a && b) ≡ false
-not_both a b h = not_true (a && b) h
-
 punct_ends : (p : Punct) (c : ℕ) → ends_punct p c ≡ true → NoLonger (text_of_punct p) c
 punct_ends p c h =
     let outer = and_true (begins_none (text_of_punct p ++ c ∷ []) && not (is_slash p && nat_eq c 42)) (not (is_dot p && is_digit c)) h in

@@ -64,11 +64,6 @@ unfolding stray_spelling
 no_stray b [] c p = refl
 no_stray b (x ∷ t) c p = refl
 
-no_long_space : (b : ℕ) (t : List ℕ) (c : ℕ) (p : List ℕ) → is_space (b ∷ (t ++ c ∷ p)) ≡ false
-unfolding is_space
-no_long_space b [] c p = refl
-no_long_space b (x ∷ t) c p = refl
-
 no_marked : (b : ℕ) (t : List ℕ) → nat_eq b 64 ≡ false → nat_eq b 96 ≡ false → is_marked_word (b ∷ t) ≡ false
 unfolding is_marked_word is_word_after_at
 no_marked b t e f = rw (e, f)

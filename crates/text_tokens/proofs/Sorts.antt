@@ -136,14 +136,14 @@ module _ (q : Spelling → Bool) (h : IsOfTexts q) (no_character : q (token char
 
 -- ---- words
 
-number_no_word : (t : List ℕ) (i f : Bool) → is_word_spelling (cond i (token integer) (cond f (token floating) (refused 0 cause.BadNumber))) ≡ false
-number_no_word t true f = refl
-number_no_word t false true = refl
-number_no_word t false false = refl
+number_no_word : (i f : Bool) → is_word_spelling (cond i (token integer) (cond f (token floating) (refused 0 cause.BadNumber))) ≡ false
+number_no_word true f = refl
+number_no_word false true = refl
+number_no_word false false = refl
 
 number_spelling_no_word : (t : List ℕ) → is_word_spelling (number_spelling t) ≡ false
 unfolding number_spelling
-number_spelling_no_word t = number_no_word t (is_integer t) (is_floating t)
+number_spelling_no_word t = number_no_word (is_integer t) (is_floating t)
 
 word_from : (t : List ℕ) → From is_word_spelling t → is_word t ≡ true
 word_from t (from_literal l e) = absurd (let no = literal_no is_word_spelling of_words refl refl t in cc)

@@ -81,8 +81,7 @@ AllSet [] = Unit {0}
 AllSet (mark.Line depth ∷ ms) = AllSet ms
 AllSet (mark.Token a u ∷ ms) = NextIsSet a u ms × AllSet ms
 
--- Pairs of tokens that would stand side by side as another spelling: a point before what begins with a point, or before
--- a number; `*` or `!` before `=` as a prefix operator; `+` before a postfix `++`, and `-` before a postfix `--` or `->`.
+-- what may not stand right after a point: what begins with a point, and a number
 abbrev pub goes_on_point : Shape → Bool
 goes_on_point (s.Int n) = true
 goes_on_point (s.Float n) = true
@@ -95,19 +94,24 @@ is_equal (s.Punct punct.Equal) = true
 is_equal (s.Punct punct.EqualEqual) = true
 is_equal _ = false
 
+-- `=` or `==` as a prefix operator, which C does not have
 abbrev pub is_equal_prefix : Shape → Use → Bool
 is_equal_prefix b use_as.Prefix = is_equal b
 is_equal_prefix b _ = false
 
+-- what begins with `-` and ends an operand
 abbrev pub is_minus_suffix : Shape → Use → Bool
 is_minus_suffix (s.Punct punct.Arrow) v = true
 is_minus_suffix (s.Punct punct.MinusMinus) use_as.Postfix = true
 is_minus_suffix _ _ = false
 
+-- what begins with `+` and does
 abbrev pub is_plus_suffix : Shape → Use → Bool
 is_plus_suffix (s.Punct punct.PlusPlus) use_as.Postfix = true
 is_plus_suffix _ _ = false
 
+-- Pairs of tokens that would stand side by side and are not apart. In C none of them occurs: the name of a member follows
+-- a point, and an operand comes before what ends one.
 abbrev pub is_merged : Shape → Shape → Use → Bool
 is_merged (s.Punct punct.Dot) b v = goes_on_point b
 is_merged (s.Punct punct.Star) b v = is_equal_prefix b v
