@@ -18,30 +18,48 @@ use Rattle.c_forms.specs.Tokens.{continued}
 use Rattle.c_syntax.specs.Grammar.{after_first, after_paren}
 use Rattle.c_alive.proofs.Rows.{fit_from, begins_with}
 
+-- the levels of expressions that are read
+abbrev pub is_reached : Sort → ℕ → Bool
+is_reached s.Exp least = not (nat_lt 15 least)
+is_reached _ least = true
+
+-- the sorts of the operands of expressions
+abbrev pub operand : Sort → ℕ → Bool
+operand s.Exp least = not (nat_lt 15 least)
+operand s.Id least = true
+operand s.TypeName least = true
+operand _ least = false
+
+-- and which of them are completed by their phrase
+abbrev pub operand_ends : Sort → ℕ → Bool
+operand_ends s.Exp least = not (nat_lt 15 least)
+operand_ends s.Id least = true
+operand_ends _ least = false
+
 -- the sorts whose parts can be completed wherever they are read
-abbrev pub lively : Sort → Bool
-lively s.Exp = true
-lively s.Id = true
-lively s.TypeName = true
-lively s.Stmt = true
-lively s.Init = true
-lively _ = false
+abbrev pub lively : Sort → ℕ → Bool
+lively s.Exp least = not (nat_lt 15 least)
+lively s.Id least = true
+lively s.TypeName least = true
+lively s.Stmt least = true
+lively s.Init least = true
+lively _ least = false
 
 -- and are completed by a phrase of their sort
 abbrev pub finished : Sort → ℕ → Bool
-finished s.Exp least = not (nat_lt 17 least)
+finished s.Exp least = not (nat_lt 15 least)
 finished s.Id least = true
 finished s.Stmt least = true
 finished s.Init least = true
 finished _ least = false
 
-abbrev has_list : Form → Bool
+abbrev pub has_list : Form → Bool
 has_list (form.Exp exp.Apply) = true
 has_list f = false
 
 -- what goes on with an expression, but the arguments of a call
-abbrev tail_fits : Option Form → Bool
-tail_fits (Some f) = has_list f || fit_from lively finished s.Exp false (after_first (pieces f)) (goes_on s.Exp (level f))
+abbrev pub tail_fits : Option Form → Bool
+tail_fits (Some f) = has_list f || fit_from operand operand_ends s.Exp false (after_first (pieces f)) (goes_on s.Exp (level f))
 tail_fits None = true
 
 pub exp_tail_fits : (p : Punct) → tail_fits (continued s.Exp p) ≡ true
@@ -49,7 +67,7 @@ exp_tail_fits punct.LeftBracket = refl
 exp_tail_fits _ = refl
 
 -- it begins with the punctuator that decides for it
-abbrev tail_begins : Punct → Option Form → Bool
+abbrev pub tail_begins : Punct → Option Form → Bool
 tail_begins p (Some f) = begins_with f (after_first (pieces f)) (class_number (class.Punct p))
 tail_begins p None = true
 
@@ -58,10 +76,10 @@ exp_tail_begins punct.LeftBracket = refl
 exp_tail_begins _ = refl
 
 -- what begins an expression
-pub cast_fits : fit_from lively finished s.Exp true (after_paren (pieces (form.Exp exp.Cast))) (goes_on s.Exp 14) ≡ true
+pub cast_fits : fit_from operand operand_ends s.Exp true (after_paren (pieces (form.Exp exp.Cast))) (goes_on s.Exp 14) ≡ true
 cast_fits = refl
 
-pub sizeof_type_fits : fit_from lively finished s.Exp true (after_paren (pieces (form.Exp exp.SizeofType))) (goes_on s.Exp 15) ≡ true
+pub sizeof_type_fits : fit_from operand operand_ends s.Exp true (after_paren (pieces (form.Exp exp.SizeofType))) (goes_on s.Exp 15) ≡ true
 sizeof_type_fits = refl
 
 -- statements, but those with groups

@@ -36,11 +36,11 @@ fit done own b (Then e ∷ ps) past = free e && (allowed e b && fit done own (pe
 fit done own b (p ∷ ps) past = false
 
 -- and each prefix of them too, which may begin with a token that the form holds
-abbrev pub fit_from : (Sort → Bool) → (Sort → ℕ → Bool) → Sort → Bool → List Piece → Classes → Bool
+abbrev pub fit_from : (Sort → ℕ → Bool) → (Sort → ℕ → Bool) → Sort → Bool → List Piece → Classes → Bool
 fit_from live done own b [] past = not b
 fit_from live done own b (Token c ∷ ps) past = fit done own b ps past && fit_from live done own b ps past
 fit_from live done own b (Own ∷ ps) past = fit done own b ps past && fit_from live done own b ps past
-fit_from live done own b (One due least ∷ ps) past = live (inside own due) && (opens_so (goes_on (inside own due) least) (pieces_phrase own ps) past && (fit done own b ps past && fit_from live done own b ps past))
+fit_from live done own b (One due least ∷ ps) past = live (inside own due) least && (opens_so (goes_on (inside own due) least) (pieces_phrase own ps) past && (fit done own b ps past && fit_from live done own b ps past))
 fit_from live done own b (Then e ∷ ps) past = free e && (allowed e b && fit_from live done own (pending e b) ps past)
 fit_from live done own b (p ∷ ps) past = false
 
@@ -63,10 +63,10 @@ happens_freely event.Seal z h k = by_due z.kept.is_function_due k
     by_due false e = refl
 happens_freely _ z h k = refl
 
-module _ (calls : Calls) (deep : ℕ) (part : Parts) (own : Sort) (f : Form) (live : Sort → Bool) (done : Sort → ℕ → Bool)
-    (lives : (due : Sort) (least : ℕ) → live due ≡ true → (a : List Kept) (z : State) (y : Shape) → Still a z → Live body calls deep z y (none_of (goes_on due least)) (λ _ t. Still a t) (part due least))
+module _ (calls : Calls) (deep : ℕ) (part : Parts) (own : Sort) (f : Form) (live : Sort → ℕ → Bool) (done : Sort → ℕ → Bool)
+    (lives : (due : Sort) (least : ℕ) → live due least ≡ true → (a : List Kept) (z : State) (y : Shape) → Still a z → Live body calls deep z y (none_of (goes_on due least)) (λ _ t. Still a t) (part due least))
     (ends : (due : Sort) (least : ℕ) → done due least ≡ true → (a : List Kept) (z : State) → Still a z → Finishes body z (none_of (goes_on due least)) (λ _ t. Still a t) (part due least) (phrase due))
-    (leaves : (due : Sort) (least : ℕ) → live due ≡ true → (a : List Kept) (z : State) (y : Shape) → Still a z → Leaves body z y (part due least) (λ _ t. Still a t))
+    (leaves : (due : Sort) (least : ℕ) → live due least ≡ true → (a : List Kept) (z : State) (y : Shape) → Still a z → Leaves body z y (part due least) (λ _ t. Still a t))
     (past : Classes) where
   abbrev pub Ended : {A : Type 0} → List Kept → A → State → Type 0
   Ended a x t = Still a t
@@ -124,7 +124,7 @@ module _ (calls : Calls) (deep : ℕ) (part : Parts) (own : Sort) (f : Form) (li
   live_pieces b before (Rest due ∷ ps) h a z y w = absurd (cc h)
   live_pieces b before (Anything ∷ ps) h a z y w = absurd (cc h)
   live_pieces false before (One due least ∷ ps) h a z y w =
-      let k = both (live (inside own due)) (opens_so (goes_on (inside own due) least) (pieces_phrase own ps) past && (fit done own false ps past && fit_from live done own false ps past)) h in
+      let k = both (live (inside own due) least) (opens_so (goes_on (inside own due) least) (pieces_phrase own ps) past && (fit done own false ps past && fit_from live done own false ps past)) h in
       let m = both (opens_so (goes_on (inside own due) least) (pieces_phrase own ps) past) (fit done own false ps past && fit_from live done own false ps past) k.1 in
       let n = both (fit done own false ps past) (fit_from live done own false ps past) m.1 in
       live_bind body calls deep z y (Ended a) (Ended a) (none_of (goes_on (inside own due) least)) (none_of past) (Ended a) (part (inside own due) least) (λ x. Bind (pieces_in part own f (before_by (is_absent x.tree)) ps) (λ g. Give (with_first x g)))
@@ -136,7 +136,7 @@ module _ (calls : Calls) (deep : ℕ) (part : Parts) (own : Sort) (f : Form) (li
       })
       (λ x t y q. live_map body calls deep t y (Ended a) (none_of past) (none_of past) (Ended a) (pieces_in part own f (before_by (is_absent x.tree)) ps) (λ g. with_first x g) (λ x q. q) (λ g t q. q) (live_pieces false (before_by (is_absent x.tree)) ps n.1 a t y q))
   live_pieces true before (One due least ∷ ps) h a z y w =
-      let k = both (live (inside own due)) (opens_so (goes_on (inside own due) least) (pieces_phrase own ps) past && (fit done own true ps past && fit_from live done own true ps past)) h in
+      let k = both (live (inside own due) least) (opens_so (goes_on (inside own due) least) (pieces_phrase own ps) past && (fit done own true ps past && fit_from live done own true ps past)) h in
       let m = both (opens_so (goes_on (inside own due) least) (pieces_phrase own ps) past) (fit done own true ps past && fit_from live done own true ps past) k.1 in
       let n = both (fit done own true ps past) (fit_from live done own true ps past) m.1 in
       live_bind body calls deep z y (Ended (w.0 ∷ a)) (Ended (w.0 ∷ a)) (none_of (goes_on (inside own due) least)) (none_of past) (Ended a) (part (inside own due) least) (λ x. Bind (pieces_in part own f (before_by (is_absent x.tree)) ps) (λ g. Give (with_first x g)))
