@@ -8,3 +8,7 @@ pub mod Climbs
 pub mod Tails
 pub mod Words
 pub mod Called
+pub mod Nodes
+pub mod Operands
+pub mod Arguments
+pub mod ExpTails

@@ -27,7 +27,7 @@ use Rattle.c_syntax.specs.Reading.{inside}
 
 -- ---- phrases
 
-abbrev a_word : Shape
+abbrev pub a_word : Shape
 a_word = shape.Word (record { 0 = 0 })
 
 -- The phrase that completes a sort; nothing for what may be absent.
