@@ -721,3 +721,8 @@ kept_in_place n due least a z y h k d = stays_in_place (below body d) d (stays_c
 pub kept_tail : (due : Sort) (i : ℕ) (s : Standing) (x : Shape) (a : List Kept) (z : State) (y : Shape) → Still a z → Leaves body z y (tail_by due i s (continued_by due x)) (λ _ t. Still a t)
 kept_tail due i s x a z y k d = let C : (n : Rule) → is_called n ≡ true → Stays (below body d) d (Call n) = stays_call (below body d) d (λ n z y. kept_call n z y d) in
     stays_tail (below body d) d C due i s (continued_by due x) (shape_calm_tail (below body d) d C due x) a z y k
+
+-- and an expression without what goes on after it
+pub kept_primary : (n least : ℕ) (a : List Kept) (z : State) (y : Shape) → Still a z → Leaves body z y (primary (in_place n) least) (λ _ t. Still a t)
+kept_primary n least a z y k d = let C : (n : Rule) → is_called n ≡ true → Stays (below body d) d (Call n) = stays_call (below body d) d (λ n z y. kept_call n z y d) in
+    stays_primary (below body d) d C (in_place n) (stays_in_place (below body d) d C n) least a z y k

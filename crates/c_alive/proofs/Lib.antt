@@ -12,3 +12,4 @@ pub mod Nodes
 pub mod Operands
 pub mod Arguments
 pub mod ExpTails
+pub mod Parens

@@ -44,7 +44,7 @@ operand_item s.Id least h = (refl, refl)
 operand_item s.TypeName least h = (refl, refl)
 operand_item _ least h = absurd (cc h)
 
-in_body : (due : Sort) (least : ℕ) → operand_ends due least ≡ true → (a : List Kept) (z : State) → Still a z → Finishes body z (none_of (goes_on due least)) (λ _ t. Still a t) (in_place 9 due least) (phrase due)
+pub in_body : (due : Sort) (least : ℕ) → operand_ends due least ≡ true → (a : List Kept) (z : State) → Still a z → Finishes body z (none_of (goes_on due least)) (λ _ t. Still a t) (in_place 9 due least) (phrase due)
 unfolding in_place
 in_body s.Exp least h a z k = fin_expression (in_place 8) least (below_words least h) a z k
 in_body s.Id least h a z k = fin_identifier a z (none_of (goes_on s.Id least)) k
