@@ -47,6 +47,10 @@ begins_here : (z : State) (p : Punct) (o : Option Form) → tail_begins p o ≡ 
 begins_here z p (Some f) h = h
 begins_here z p None h = refl
 
+-- fewer tokens go on with what is tight enough
+pub fewer : (least : ℕ) (f : Form) → nat_lt (level f) least ≡ false → (x : Shape) → none_of (goes_on s.Exp least) x ≡ true → none_of (goes_on s.Exp (level f)) x ≡ true
+fewer least f low x q = none_within (goes_on s.Exp (level f)) (goes_on s.Exp least) x (exp_within (level f) least (ltb-false (level f) least low)) q
+
 module _ (least i : ℕ) (a : List Kept) where
   abbrev Held : {A : Type 0} → A → State → Type 0
   Held x t = Still a t
@@ -71,15 +75,12 @@ module _ (least i : ℕ) (a : List Kept) where
       by_list (inl e) = subst (λ f. Live body calls deep z x (none_of (goes_on s.Exp (level f))) Held (pieces_after f)) (sym (is_call f e)) (live_call a (goes_on s.Exp 16) deep room z x k)
       by_list (inr r) = live_pieces calls deep (parts_of f called) s.Exp f operand operand_ends (operand_lives deep room (is_starred f)) (operand_finishes (is_starred f)) (operand_leaves (is_starred f)) (goes_on s.Exp (level f)) false Usual (after_first (pieces f)) r a z x k
 
-  fewer : (f : Form) → nat_lt (level f) least ≡ false → (x : Shape) → none_of (goes_on s.Exp least) x ≡ true → none_of (goes_on s.Exp (level f)) x ≡ true
-  fewer f low x q = none_within (goes_on s.Exp (level f)) (goes_on s.Exp least) x (exp_within (level f) least (ltb-false (level f) least low)) q
-
   live_tail : (deep : ℕ) (y : Standing) (z : State) (x : Shape) (o : Option Form) → tail_fits o ≡ true → begins_so z x o ≡ true → Still a z → is_tail s.Exp least z y o ≡ true → Live body calls deep z x (none_of (goes_on s.Exp least)) Held (tail_by s.Exp i y o)
   live_tail deep y z x None h o k e = absurd (cc e)
   live_tail deep y z x (Some f) h o k e = let low = not_true (nat_lt (level f) least) (both (not (nat_lt (level f) least)) (not (nat_lt y.level (left_level (pieces f))) && may_follow s.Exp z y.found.tree f) e).0 in let part = after_part called s.Exp f i (deeper y.found) in (
-    begun_fewer body z x (none_of (goes_on s.Exp (level f))) (none_of (goes_on s.Exp least)) Held Held (standing (level f) part) (fewer f low) (λ x t k. k)
+    begun_fewer body z x (none_of (goes_on s.Exp (level f))) (none_of (goes_on s.Exp least)) Held Held (standing (level f) part) (fewer least f low) (λ x t k. k)
         (begun_map a (none_of (goes_on s.Exp (level f))) z x part (λ x. record { found = x; level = level f }) (begun_completed a (none_of (goes_on s.Exp (level f))) (parts_of f called) s.Exp f i (one (deeper y.found)) (after_first (pieces f)) z x (begun_after f z x h o k))),
-    live_fewer body calls (suc y.found.height) z x (none_of (goes_on s.Exp (level f))) (none_of (goes_on s.Exp least)) Held (standing (level f) part) (fewer f low)
+    live_fewer body calls (suc y.found.height) z x (none_of (goes_on s.Exp (level f))) (none_of (goes_on s.Exp least)) Held (standing (level f) part) (fewer least f low)
         (live_map body calls (suc y.found.height) z x Held (none_of (goes_on s.Exp (level f))) (none_of (goes_on s.Exp (level f))) Held part (λ x. record { found = x; level = level f }) (λ x q. q) (λ x t k. k)
         (live_completed a (none_of (goes_on s.Exp (level f))) (parts_of f called) s.Exp f i (one (deeper y.found)) (after_first (pieces f)) calls (suc y.found.height) z x (live_after (suc y.found.height) (omega arith) f z x h k))),
   )

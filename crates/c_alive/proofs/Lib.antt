@@ -13,3 +13,5 @@ pub mod Operands
 pub mod Arguments
 pub mod ExpTails
 pub mod Parens
+pub mod Entered
+pub mod Sized
