@@ -15,3 +15,6 @@ pub mod ExpTails
 pub mod Parens
 pub mod Entered
 pub mod Sized
+pub mod Prefixes
+pub mod Texts
+pub mod Expressions
