@@ -1,10 +1,8 @@
 -- The arguments of a call can be completed.
-use Rattle.std.proofs.Common.{◌≡◌, refl, ◌∙◌, ap, ℕ, ◌<◌, true, false, List, [], ◌∷◌, ◌++◌, Option, Some, None, nat_eq, arith}
+use Rattle.std.proofs.Common.{◌≡◌, refl, ap, ℕ, ◌<◌, true, false, List, [], ◌∷◌, Some, nat_eq, arith}
 use Rattle.c_tokens.specs.declared.token.Shape.{Shape}
 use Rattle.c_tokens.specs.declared.token.Punct.TheVariants as punct
-use Rattle.c_tokens.specs.declared.class.Class.TheVariants as class
 use Rattle.c_tokens.specs.ClassNumbers.{class_number}
-use Rattle.c_forms.specs.declared.pieces.Sort.{Sort}
 use Rattle.c_forms.specs.declared.pieces.Sort.TheVariants as s
 use Rattle.c_forms.specs.declared.pieces.Repetition.{Repetition}
 use Rattle.c_forms.specs.declared.pieces.Repetition.TheVariants.{Spliced}
@@ -15,12 +13,12 @@ use Rattle.c_forms.specs.declared.forms.Form.TheVariants as form
 use Rattle.c_forms.specs.declared.forms.ExpForm.TheVariants as exp
 use Rattle.c_forms.specs.Sets.{Classes, has, goes_on, goes_on_with, element_starts, part_goes_on}
 use Rattle.c_reader.specs.States.{State, Kept, class}
-use Rattle.c_reader.specs.Readers.{Reader, Found, Give, Bind, Pick, below, only, choose, token}
+use Rattle.c_reader.specs.Readers.{Reader, Give, Bind, below, only, choose, token}
 use Rattle.c_reader.proofs.Sets.{contrary}
 use Rattle.c_reader.proofs.Leaves.{Leaves, leaving_pick}
 use Rattle.c_reader.proofs.Phrases.{Tokens, Finishes, Begun, Way, anything, opens_anything, quiet, fin_give, fin_ask, fin_bind, fin_map, fin_choose, fin_look_past, begun_bind, begun_pick}
 use Rattle.c_reader.proofs.Live.{Live, live_bind, live_choose, live_map}
-use Rattle.c_syntax.specs.Reading.{Usual, Parts, Gathered, Listed, none_at, gathered, gathered_by, many, called, before_by, has_none, with_first, list_from, pieces_in}
+use Rattle.c_syntax.specs.Reading.{Usual, Gathered, Listed, none_at, gathered, gathered_by, many, called, before_by, has_none, with_first, list_from, pieces_in}
 use Rattle.c_syntax.specs.Grammar.{body, sign}
 use Rattle.c_alive.proofs.Tame.{bounded_group, firm_called}
 use Rattle.c_alive.proofs.Kept.{Still, stays_gathered}

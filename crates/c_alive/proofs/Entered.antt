@@ -1,32 +1,26 @@
 -- After an opening parenthesis, or `sizeof`, an expression can be completed.
-use Rattle.std.proofs.Common.{◌≡◌, refl, ◌∙◌, ℕ, ◌<◌, ◌-◌, nat_lt, not, true, false, List, [], ◌∷◌, arith}
-use Rattle.c_tokens.specs.declared.token.Punct.TheVariants as punct
+use Rattle.std.proofs.Common.{◌≡◌, refl, ℕ, ◌<◌, nat_lt, true, false, List, ◌∷◌, arith}
 use Rattle.c_tokens.specs.declared.token.Shape.{Shape}
-use Rattle.c_tokens.specs.declared.token.Shape.TheVariants as shape
 use Rattle.c_forms.specs.declared.pieces.Event.TheVariants as event
 use Rattle.c_forms.specs.declared.pieces.Sort.TheVariants as s
-use Rattle.c_forms.specs.declared.pieces.Piece.{Piece}
 use Rattle.c_forms.specs.declared.forms.Form.{Form}
 use Rattle.c_forms.specs.declared.forms.Form.TheVariants as form
 use Rattle.c_forms.specs.declared.forms.ExpForm.TheVariants as exp
 use Rattle.c_forms.specs.Measures.{level, pieces}
-use Rattle.c_forms.specs.Sets.{Classes, goes_on}
+use Rattle.c_forms.specs.Sets.{goes_on}
 use Rattle.c_reader.specs.States.{State, Kept, Seen, seen, happens}
-use Rattle.c_reader.specs.Readers.{Reader, Found, Of, Opened, Give, Refuse, Look, Next, Bind, Fits, Call, Ask, Change, choose}
-use Rattle.c_reader.proofs.Sets.{contrary, not_true}
-use Rattle.c_reader.proofs.Leaves.{anyhow, leaves_anyhow}
-use Rattle.c_reader.proofs.Phrases.{Tokens, Finishes, Begun, begun_next, fin_give, fin_ask, fin_call, fin_change, fin_look, fin_choose, fin_fits, fin_fewer, fin_last, fin_map}
-use Rattle.c_reader.proofs.Live.{Live, live_bind, live_choose, live_map, live_next}
-use Rattle.c_syntax.specs.Reading.{Usual, Parts, nothing, one, node, deeper, called, completed}
-use Rattle.c_syntax.specs.Grammar.{body, Standing, standing, tight, is_sign, begins, type_or, entered, sized, sized_opened, parenthesized, opened, climb, after_first, after_paren}
+use Rattle.c_reader.specs.Readers.{Reader, Found, Refuse, Look, Change, choose}
+use Rattle.c_reader.proofs.Sets.{contrary}
+use Rattle.c_reader.proofs.Phrases.{Tokens, Finishes, Begun, begun_next, fin_change, fin_look, fin_choose, fin_fewer, fin_map}
+use Rattle.c_reader.proofs.Live.{Live, live_choose, live_map, live_next}
+use Rattle.c_syntax.specs.Reading.{Usual, nothing, called, completed}
+use Rattle.c_syntax.specs.Grammar.{body, Standing, standing, tight, begins, type_or, entered, parenthesized, after_paren}
 use Rattle.c_alive.proofs.Kept.{Still, Within, event_within}
 use Rattle.c_alive.proofs.Phrased.{none_of, a_word, live_fewer}
-use Rattle.c_alive.proofs.FitRows.{operand, operand_ends, cast_fits, sizeof_type_fits}
-use Rattle.c_alive.proofs.Tails.{exp_over}
-use Rattle.c_alive.proofs.Rows.{fin_pieces, live_pieces}
-use Rattle.c_alive.proofs.Nodes.{live_completed, fin_completed}
+use Rattle.c_alive.proofs.FitRows.{operand, operand_ends, cast_fits}
+use Rattle.c_alive.proofs.Rows.{live_pieces}
+use Rattle.c_alive.proofs.Nodes.{live_completed}
 use Rattle.c_alive.proofs.Operands.{operand_lives, operand_finishes, operand_leaves}
-use Rattle.c_alive.proofs.Climbs.{fin_climb}
 use Rattle.c_alive.proofs.Parens.{and_close, fin_wrapped, live_wrapped}
 use Rattle.c_alive.proofs.ExpTails.{fewer}
 use Rattle.c_alive.proofs.Called.{calls}
@@ -89,4 +83,3 @@ module _ (least : ℕ) (a : List Kept) where
     begun_type_or (cast i) (standing 17 (parenthesized s.Exp)) (fin_wrapped a (goes_on s.Exp least)) z y k,
     live_type_or (cast i) (standing 17 (parenthesized s.Exp)) (fin_wrapped a (goes_on s.Exp least)) 1 (λ t y w. live_cast 1 (omega arith) i t y w) (λ t y k. live_wrapped a (goes_on s.Exp least) 1 (omega arith) t y k) z y k,
   )
-

@@ -1,5 +1,5 @@
 -- Expressions can be completed after their first part.
-use Rattle.std.proofs.Common.{◌≡◌, ◌⊎◌, inl, inr, refl, sym, subst, ◌∙◌, ap, ℕ, suc, ◌<◌, ◌≤◌, nat_lt, not, Bool, true, false, ◌&&◌, ◌||◌, List, [], ◌∷◌, Option, Some, None, arith}
+use Rattle.std.proofs.Common.{◌≡◌, ◌⊎◌, inl, inr, refl, sym, subst, ℕ, suc, ◌<◌, nat_lt, not, Bool, true, false, ◌&&◌, List, Option, Some, None, arith}
 use Rattle.std.proofs.lemmas.Bool.{ltb-false}
 use Rattle.c_tokens.specs.declared.token.Punct.{Punct}
 use Rattle.c_tokens.specs.declared.token.Punct.TheVariants as punct
@@ -15,8 +15,8 @@ use Rattle.c_forms.specs.Measures.{level, pieces}
 use Rattle.c_forms.specs.Tokens.{continued}
 use Rattle.c_forms.specs.Sets.{goes_on}
 use Rattle.c_reader.specs.States.{State, Kept, class}
-use Rattle.c_reader.specs.Readers.{Reader, Found, Fits}
-use Rattle.c_reader.proofs.Sets.{contrary, both, either, not_true, same_class}
+use Rattle.c_reader.specs.Readers.{Reader}
+use Rattle.c_reader.proofs.Sets.{both, either, not_true, same_class}
 use Rattle.c_reader.proofs.Phrases.{Begun, begun_fewer}
 use Rattle.c_reader.proofs.Live.{Live, live_map}
 use Rattle.c_syntax.specs.Reading.{Usual, Listed, one, deeper, called, parts_of, is_starred, pieces_in}

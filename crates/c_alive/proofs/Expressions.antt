@@ -1,5 +1,5 @@
 -- Expressions can be completed at each level that rows call.
-use Rattle.std.proofs.Common.{◌≡◌, refl, ℕ, suc, ◌-◌, nat_lt, not, true, false, List, []}
+use Rattle.std.proofs.Common.{◌≡◌, ℕ, suc, nat_lt, true, List, []}
 use Rattle.c_tokens.specs.declared.token.Punct.TheVariants as punct
 use Rattle.c_tokens.specs.declared.token.Key.TheVariants as key
 use Rattle.c_tokens.specs.declared.token.Shape.{Shape}
@@ -8,12 +8,12 @@ use Rattle.c_forms.specs.declared.pieces.Sort.TheVariants as s
 use Rattle.c_forms.specs.Tokens.{begun}
 use Rattle.c_forms.specs.Sets.{goes_on}
 use Rattle.c_reader.specs.States.{State, Kept, seen}
-use Rattle.c_reader.specs.Readers.{Reader, Of, Refuse, choose}
+use Rattle.c_reader.specs.Readers.{Refuse, choose}
 use Rattle.c_reader.proofs.Sets.{not_true}
 use Rattle.c_reader.proofs.Phrases.{Tokens}
 use Rattle.c_reader.proofs.Live.{Live, live_bind, live_choose}
 use Rattle.c_syntax.specs.Reading.{is_class}
-use Rattle.c_syntax.specs.Grammar.{body, in_place, is_sign, begins, entered, sized, begun_by, primary, climb, expression, Standing}
+use Rattle.c_syntax.specs.Grammar.{body, in_place, is_sign, begins, entered, sized, begun_by, primary, climb, expression}
 use Rattle.c_alive.proofs.Kept.{Still, kept_primary}
 use Rattle.c_alive.proofs.Phrased.{none_of}
 use Rattle.c_alive.proofs.FitRows.{is_reached}

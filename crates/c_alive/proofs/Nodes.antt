@@ -1,5 +1,5 @@
 -- The node that is made of the pieces of a row.
-use Rattle.std.proofs.Common.{◌≡◌, ◌∙◌, ap, subst, ℕ, ◌<◌, zero, suc, nat_lt, not, Bool, true, false, List, [], ◌∷◌}
+use Rattle.std.proofs.Common.{ℕ, List, []}
 use Rattle.c_tokens.specs.declared.token.Shape.{Shape}
 use Rattle.c_forms.specs.declared.pieces.Sort.{Sort}
 use Rattle.c_forms.specs.declared.pieces.Piece.{Piece}

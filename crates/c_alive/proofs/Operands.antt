@@ -1,9 +1,8 @@
 -- The operands of expressions, where they are called.
-use Rattle.std.proofs.Common.{◌≡◌, refl, ◌∙◌, ap, subst, ℕ, ◌+◌, ◌<◌, nat_lt, not, Bool, true, false, List, [], ◌∷◌, Option, Some, None, arith}
+use Rattle.std.proofs.Common.{◌≡◌, refl, ◌∙◌, ap, ℕ, ◌+◌, ◌<◌, nat_lt, not, Bool, true, false, List, [], ◌∷◌, arith}
 use Rattle.std.proofs.lemmas.Bool.{lt-ltb}
 use borrow.Author.Tests.{ltb-true}
 use Rattle.c_tokens.specs.declared.token.Shape.{Shape}
-use Rattle.c_tokens.specs.declared.token.Shape.TheVariants as shape
 use Rattle.c_forms.specs.declared.pieces.Sort.{Sort}
 use Rattle.c_forms.specs.declared.pieces.Sort.TheVariants as s
 use Rattle.c_forms.specs.declared.forms.Form.TheVariants as form
@@ -14,9 +13,9 @@ use Rattle.c_reader.proofs.Sets.{contrary, not_true}
 use Rattle.c_reader.proofs.Leaves.{Leaves, leaving_bind, leaving_give, leaving_more}
 use Rattle.c_reader.proofs.Phrases.{Tokens, Finishes, fin_ask, fin_pick}
 use Rattle.c_reader.proofs.Live.{Live}
-use Rattle.c_syntax.specs.Reading.{Parts, nothing, node, called, deeper, parts_by}
+use Rattle.c_syntax.specs.Reading.{nothing, node, called, deeper, parts_by}
 use Rattle.c_syntax.specs.Grammar.{body, identifier, in_place, leaf_if, is_word}
-use Rattle.c_alive.proofs.Kept.{Still, KeptBy, is_item, is_called, kept_call}
+use Rattle.c_alive.proofs.Kept.{Still, KeptBy, is_item, kept_call}
 use Rattle.c_alive.proofs.Phrased.{none_of, phrase, a_word}
 use Rattle.c_alive.proofs.FitRows.{is_reached, operand, operand_ends}
 use Rattle.c_alive.proofs.Words.{fin_expression}

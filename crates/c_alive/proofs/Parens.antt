@@ -1,5 +1,5 @@
 -- An expression in parentheses can be completed.
-use Rattle.std.proofs.Common.{◌≡◌, refl, ◌∙◌, ℕ, ◌<◌, true, List, [], ◌∷◌}
+use Rattle.std.proofs.Common.{refl, ◌∙◌, ℕ, ◌<◌, List, [], ◌∷◌}
 use Rattle.c_tokens.specs.declared.token.Punct.TheVariants as punct
 use Rattle.c_tokens.specs.declared.token.Shape.{Shape}
 use Rattle.c_tokens.specs.declared.token.Shape.TheVariants as shape
@@ -9,10 +9,10 @@ use Rattle.c_forms.specs.Sets.{Classes, goes_on}
 use Rattle.c_reader.specs.States.{State, Kept}
 use Rattle.c_reader.specs.Readers.{Reader, Found, Of, Give, Bind, Call, below, token}
 use Rattle.c_reader.proofs.Leaves.{Leaves, leaving_more}
-use Rattle.c_reader.proofs.Phrases.{Tokens, Finishes, Way, fin_call, fin_bind, fin_map, fin_token}
+use Rattle.c_reader.proofs.Phrases.{Finishes, Way, fin_call, fin_bind, fin_map, fin_token}
 use Rattle.c_reader.proofs.Live.{Live, live_bind, live_map}
 use Rattle.c_syntax.specs.Reading.{deeper}
-use Rattle.c_syntax.specs.Grammar.{body, sign, Standing, standing, parenthesized}
+use Rattle.c_syntax.specs.Grammar.{body, sign, standing, parenthesized}
 use Rattle.c_alive.proofs.Kept.{Still, KeptBy, kept_call}
 use Rattle.c_alive.proofs.Phrased.{none_of, a_word, opens_if}
 use Rattle.c_alive.proofs.Operands.{in_body}

@@ -1,5 +1,5 @@
 -- What begins an expression by its first token can be completed.
-use Rattle.std.proofs.Common.{◌≡◌, ◌⊎◌, inl, inr, refl, subst, sym, ◌∙◌, ℕ, suc, ◌<◌, not, Bool, true, false, ◌&&◌, ◌||◌, List, [], ◌∷◌, Option, Some, None, arith}
+use Rattle.std.proofs.Common.{◌≡◌, ◌⊎◌, inl, inr, refl, subst, sym, ℕ, not, Bool, true, false, ◌&&◌, ◌||◌, List, Option, Some, None, arith}
 use Rattle.c_tokens.specs.declared.token.Punct.{Punct}
 use Rattle.c_tokens.specs.declared.token.Punct.TheVariants as punct
 use Rattle.c_tokens.specs.declared.token.Key.{Key}
@@ -8,29 +8,21 @@ use Rattle.c_tokens.specs.declared.token.Shape.{Shape}
 use Rattle.c_tokens.specs.declared.token.Shape.TheVariants as shape
 use Rattle.c_forms.specs.declared.pieces.Sort.{Sort}
 use Rattle.c_forms.specs.declared.pieces.Sort.TheVariants as s
-use Rattle.c_forms.specs.declared.pieces.Repetition.{Repetition}
-use Rattle.c_forms.specs.declared.pieces.Repetition.TheVariants.{Many}
-use Rattle.c_forms.specs.declared.pieces.Piece.{Piece}
-use Rattle.c_forms.specs.declared.pieces.Piece.TheVariants.{Group}
 use Rattle.c_forms.specs.declared.forms.Form.{Form}
 use Rattle.c_forms.specs.declared.forms.Form.TheVariants as form
 use Rattle.c_forms.specs.declared.forms.ExpForm.TheVariants as exp
 use Rattle.c_forms.specs.Measures.{level, pieces}
 use Rattle.c_forms.specs.Tokens.{begun}
-use Rattle.c_forms.specs.Sets.{goes_on, goes_on_with, element_starts}
+use Rattle.c_forms.specs.Sets.{goes_on}
 use Rattle.c_reader.specs.States.{State, Kept, class}
-use Rattle.c_reader.specs.Readers.{Reader, Found, Give, Bind, Ask, Pick}
 use Rattle.c_reader.proofs.Sets.{either}
-use Rattle.c_reader.proofs.Leaves.{Leaves, anyhow, leaves_anyhow}
-use Rattle.c_reader.proofs.Phrases.{Tokens, Finishes, quiet, fin_give, fin_ask, fin_pick, fin_map}
-use Rattle.c_reader.proofs.Live.{Live, live_bind, live_map}
-use Rattle.c_syntax.specs.Reading.{Usual, Parts, Listed, Gathered, nothing, node, called, parts_by, is_starred, gathered, gathered_by, many, before_by, has_none, with_first, list_from, pieces_in, completed}
-use Rattle.c_syntax.specs.Grammar.{body, whole, charged, begun_by, in_place, literal_of}
-use Rattle.c_alive.proofs.Tame.{bounded_group, firm_in_place}
-use Rattle.c_alive.proofs.Kept.{Still, kept_in_place}
-use Rattle.c_alive.proofs.Phrased.{none_of, none_within}
+use Rattle.c_reader.proofs.Phrases.{Tokens}
+use Rattle.c_reader.proofs.Live.{Live}
+use Rattle.c_syntax.specs.Reading.{Usual, Parts, nothing, called, parts_by, is_starred, completed}
+use Rattle.c_syntax.specs.Grammar.{body, whole, charged, begun_by, in_place}
+use Rattle.c_alive.proofs.Kept.{Still}
+use Rattle.c_alive.proofs.Phrased.{none_of}
 use Rattle.c_alive.proofs.FitRows.{operand, operand_ends}
-use Rattle.c_alive.proofs.Groups.{live_some}
 use Rattle.c_alive.proofs.Rows.{fit_from, begins_with, live_pieces, begun_pieces}
 use Rattle.c_alive.proofs.Nodes.{live_completed, begun_completed}
 use Rattle.c_alive.proofs.Operands.{operand_lives, operand_finishes, operand_leaves}

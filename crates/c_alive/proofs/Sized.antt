@@ -8,10 +8,9 @@ use Rattle.c_forms.specs.declared.forms.ExpForm.TheVariants as exp
 use Rattle.c_forms.specs.Measures.{pieces}
 use Rattle.c_forms.specs.Sets.{goes_on}
 use Rattle.c_reader.specs.States.{State, Kept, Seen, seen}
-use Rattle.c_reader.specs.Tokens.{Spot, spot}
-use Rattle.c_reader.specs.Readers.{Reader, Found, Opened, Give, Refuse, Look, Next, Bind, Fits, Call, Ask, choose}
+use Rattle.c_reader.specs.Readers.{Reader, Found, Opened, Give, Refuse, Look, Bind, Fits, Call, Ask, choose}
 use Rattle.c_reader.proofs.Leaves.{anyhow, leaves_anyhow}
-use Rattle.c_reader.proofs.Phrases.{Tokens, Finishes, Begun, begun_fits, begun_next, fin_give, fin_ask, fin_call, fin_look, fin_fits, fin_last}
+use Rattle.c_reader.proofs.Phrases.{Tokens, Finishes, begun_next, fin_give, fin_ask, fin_call, fin_look, fin_fits, fin_last}
 use Rattle.c_reader.proofs.Live.{Live, live_bind, live_choose, live_next}
 use Rattle.c_syntax.specs.Reading.{Usual, Parts, nothing, one, node, deeper, called, completed}
 use Rattle.c_syntax.specs.Grammar.{body, Standing, standing, tight, is_sign, begins, type_or, sized, sized_opened, parenthesized, opened, climb, after_first, after_paren}

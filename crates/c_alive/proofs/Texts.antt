@@ -1,5 +1,5 @@
 -- String literals side by side can be completed.
-use Rattle.std.proofs.Common.{◌≡◌, refl, ◌∙◌, ap, ℕ, ◌+◌, suc, true, false, List, [], ◌∷◌, Option, Some, None}
+use Rattle.std.proofs.Common.{refl, ℕ, ◌+◌, suc, List, [], ◌∷◌, None}
 use Rattle.c_tokens.specs.declared.token.Shape.{Shape}
 use Rattle.c_tokens.specs.declared.token.Shape.TheVariants as shape
 use Rattle.c_forms.specs.declared.pieces.Sort.TheVariants as s
@@ -11,7 +11,7 @@ use Rattle.c_forms.specs.declared.forms.ExpForm.TheVariants as exp
 use Rattle.c_forms.specs.Measures.{pieces}
 use Rattle.c_forms.specs.Sets.{goes_on, goes_on_with, element_starts}
 use Rattle.c_reader.specs.States.{State, Kept}
-use Rattle.c_reader.specs.Readers.{Reader, Found, Give, Bind, Ask, Pick}
+use Rattle.c_reader.specs.Readers.{Reader, Found, Give, Bind, Pick}
 use Rattle.c_reader.proofs.Leaves.{anyhow, leaves_anyhow}
 use Rattle.c_reader.proofs.Phrases.{Tokens, Finishes, quiet, fin_give, fin_ask, fin_pick, fin_map}
 use Rattle.c_reader.proofs.Live.{Live, live_bind, live_map}
