@@ -18,3 +18,4 @@ pub mod Sized
 pub mod Prefixes
 pub mod Texts
 pub mod Expressions
+pub mod Names
