@@ -19,3 +19,4 @@ pub mod Prefixes
 pub mod Texts
 pub mod Expressions
 pub mod Names
+pub mod Values
