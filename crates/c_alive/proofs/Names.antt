@@ -1,13 +1,13 @@
 -- Words that name something, and string literals, can be completed: they are one token.
-use Rattle.std.proofs.Common.{◌≡◌, refl, ℕ, ◌+◌, suc, false, true, List, [], ◌∷◌}
+use Rattle.std.proofs.Common.{refl, ℕ, ◌+◌, suc, false, List, [], ◌∷◌}
 use Rattle.c_tokens.specs.declared.token.Shape.{Shape}
 use Rattle.c_forms.specs.declared.pieces.Event.TheVariants as event
 use Rattle.c_forms.specs.declared.pieces.Sort.TheVariants as s
 use Rattle.c_forms.specs.declared.forms.Form.TheVariants as form
-use Rattle.c_reader.specs.States.{State, Kept, noted, happens}
+use Rattle.c_reader.specs.States.{State, Kept, happens}
 use Rattle.c_reader.specs.Readers.{Give, Note, Change}
-use Rattle.c_reader.proofs.Leaves.{Leaves, anyhow, leaves_anyhow}
-use Rattle.c_reader.proofs.Phrases.{Tokens, Finishes, fin_give, fin_ask, fin_note, fin_last, fin_change}
+use Rattle.c_reader.proofs.Leaves.{anyhow, leaves_anyhow}
+use Rattle.c_reader.proofs.Phrases.{Tokens, Finishes, fin_give, fin_ask, fin_note, fin_change}
 use Rattle.c_reader.proofs.Live.{Live, live_bind}
 use Rattle.c_syntax.specs.Reading.{nothing, node}
 use Rattle.c_syntax.specs.Grammar.{body, in_place, leaf_if, is_value, is_word, declared_identifier, enumerator_identifier}

@@ -1,5 +1,5 @@
 -- Widths and values of enumerators can be completed.
-use Rattle.std.proofs.Common.{◌≡◌, refl, ℕ, suc, nat_lt, not, Bool, true, false, List, []}
+use Rattle.std.proofs.Common.{◌≡◌, refl, ℕ, suc, nat_lt, not, Bool, true, false, List}
 use Rattle.c_tokens.specs.declared.token.Shape.{Shape}
 use Rattle.c_forms.specs.declared.pieces.Sort.{Sort}
 use Rattle.c_forms.specs.declared.pieces.Sort.TheVariants as s
@@ -7,7 +7,7 @@ use Rattle.c_forms.specs.declared.forms.Form.{Form}
 use Rattle.c_forms.specs.declared.forms.Form.TheVariants as form
 use Rattle.c_forms.specs.declared.forms.GroupForm.TheVariants as group
 use Rattle.c_forms.specs.Measures.{pieces}
-use Rattle.c_forms.specs.Sets.{Classes, goes_on}
+use Rattle.c_forms.specs.Sets.{goes_on}
 use Rattle.c_reader.specs.States.{State, Kept}
 use Rattle.c_reader.proofs.Leaves.{Leaves}
 use Rattle.c_reader.proofs.Phrases.{Finishes}
