@@ -8,3 +8,4 @@ pub mod Close
 pub mod Marks
 pub mod Prefixes
 pub mod Layouts
+pub mod Cuts
