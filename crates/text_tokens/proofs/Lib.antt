@@ -9,3 +9,4 @@ pub mod Marks
 pub mod Prefixes
 pub mod Layouts
 pub mod Cuts
+pub mod Places
