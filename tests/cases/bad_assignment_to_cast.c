@@ -1,0 +1,1 @@
+int z = (int) a = b;

@@ -1,0 +1,1 @@
+int z = a ? b + c = d : e;

@@ -1,0 +1,1 @@
+__attribute__((packed)) int x;

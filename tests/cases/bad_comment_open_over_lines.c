@@ -1,0 +1,4 @@
+int x;
+    int y; /* one
+two * /
+three

@@ -1,0 +1,1 @@
+void f(void) { if (a) ; else struct s x; }

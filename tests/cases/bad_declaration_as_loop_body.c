@@ -1,0 +1,1 @@
+void f(void) { while (a) const int y; }

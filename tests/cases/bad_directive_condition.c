@@ -1,0 +1,4 @@
+int x;
+#if 1
+int y;
+#endif

@@ -1,0 +1,3 @@
+int x,
+#ident "a"
+y;

@@ -1,0 +1,1 @@
+void f(void) { if (a) do x(); else y(); while (b); }

@@ -1,0 +1,1 @@
+unsigned enum e x;

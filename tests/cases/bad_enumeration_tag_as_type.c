@@ -1,0 +1,1 @@
+enum T { A }; T x;

@@ -1,0 +1,1 @@
+int T(void); T x;

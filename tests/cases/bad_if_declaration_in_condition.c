@@ -1,0 +1,1 @@
+void f(void) { if (int a = b) c(); }

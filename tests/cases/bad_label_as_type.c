@@ -1,0 +1,1 @@
+void f(void) { T: ; } T x;

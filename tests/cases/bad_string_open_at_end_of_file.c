@@ -1,0 +1,1 @@
+char *x = "abc

@@ -1,0 +1,3 @@
+int x;
+char *y = "abc;
+int z;

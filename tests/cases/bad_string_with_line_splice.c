@@ -1,0 +1,2 @@
+char *x = "abc\
+def";

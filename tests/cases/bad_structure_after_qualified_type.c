@@ -1,0 +1,1 @@
+const int struct s x;

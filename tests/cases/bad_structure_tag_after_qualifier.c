@@ -1,0 +1,1 @@
+struct const s x;

@@ -1,0 +1,1 @@
+struct 3 { int a; };

@@ -1,0 +1,1 @@
+struct T { int a; }; T x;

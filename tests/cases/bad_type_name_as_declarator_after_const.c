@@ -1,0 +1,1 @@
+typedef int T; const T = 1;

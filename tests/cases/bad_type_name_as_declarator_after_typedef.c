@@ -1,0 +1,1 @@
+typedef int T; typedef T[3];

@@ -1,0 +1,1 @@
+typedef int T; int a[sizeof (enum { T })]; T x;

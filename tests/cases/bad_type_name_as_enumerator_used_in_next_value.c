@@ -1,0 +1,1 @@
+typedef int T; enum { T = 1, U = sizeof (T *) };

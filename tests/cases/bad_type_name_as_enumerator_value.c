@@ -1,0 +1,1 @@
+typedef int T; enum e { A = T };

@@ -1,0 +1,1 @@
+typedef int T; int f(T T, T x);

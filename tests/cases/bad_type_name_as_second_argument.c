@@ -1,0 +1,1 @@
+typedef int T; int x = f(1, T);

@@ -1,0 +1,1 @@
+typedef int T; struct s { int a : T; };

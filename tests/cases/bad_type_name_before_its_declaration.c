@@ -1,0 +1,1 @@
+T x; typedef int T;

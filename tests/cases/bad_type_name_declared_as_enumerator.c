@@ -1,0 +1,1 @@
+typedef int T; enum e { T }; T x;

@@ -1,0 +1,1 @@
+typedef int T; void f(void) { enum { T } a; T b; }

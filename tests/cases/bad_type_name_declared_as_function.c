@@ -1,0 +1,1 @@
+typedef int T; int T(void); T x;

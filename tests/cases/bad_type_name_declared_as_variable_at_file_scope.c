@@ -1,0 +1,1 @@
+typedef int T; int T; T x;

@@ -1,0 +1,1 @@
+typedef int T; int T(void) { return 1; } T x;

@@ -1,0 +1,1 @@
+typedef int T; int x[] = { 1, T };

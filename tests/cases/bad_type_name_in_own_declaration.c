@@ -1,0 +1,1 @@
+typedef T T;

@@ -1,0 +1,1 @@
+void f(void) { { typedef int T; } T x; }

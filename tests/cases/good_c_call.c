@@ -1,0 +1,1 @@
+int a = twice(1);

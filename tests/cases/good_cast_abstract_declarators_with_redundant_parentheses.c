@@ -1,0 +1,16 @@
+int a = (int (*)) b;
+int c = (int (**)) d;
+int e = (int (*[3])) d;
+int f = (int ([3])) d;
+int g = (int ((*)[3])) d;
+int h = (int *(*)) d;
+int i = (int (())) d;
+int j = (int ((void))) d;
+int k = (int (*(*))) d;
+int l = (int ((*)(int))) d;
+int m = (int *(*)[3]) d;
+int n = (int *()) d;
+int o = (int (*())) d;
+int p = (int ()) d;
+int q = (int (int)) d;
+int r = (int ([])[3]) d;

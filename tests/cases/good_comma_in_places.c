@@ -1,0 +1,17 @@
+int a = (b, c);
+int d = ((b, c), e);
+int g = (b, (c, e));
+int h = f((b, c), e);
+int i = f((b, c));
+int j = x[(b, c)];
+int k[] = { (b, c), e };
+int l = b ? (c, d) : e;
+int m = (b = c, d = e);
+int n = ((b = c), (d = e));
+int o = (b, c) = d;
+int p = b = (c, d);
+int q = -(b, c);
+int r = (int) (b, c);
+int s = sizeof (b, c);
+int t = (b, c) + (d, e);
+int u = ((b, c)), v;

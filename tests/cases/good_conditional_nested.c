@@ -1,0 +1,9 @@
+int a = b ? c : (d ? e : f);
+int g = (b ? c : d) ? e : f;
+int h = b ? (c ? d : e) : f;
+int i = b ? c ? d : e : f;
+int j = b ? c : d ? e : f;
+int k = (b ? c : d ? e : f) ? g : h;
+int l = b ? (c ? d : e) : (f ? g : h);
+int m = b ? (c) : (d);
+int n = (b) ? c : d;

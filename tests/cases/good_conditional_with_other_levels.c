@@ -1,0 +1,18 @@
+int a = b ? (c, d) : e;
+int f = b ? c : (d, e);
+int g = (b, c) ? d : e;
+int h = b ? (c = d) : e;
+int i = b ? c : (d = e);
+int j = (b = c) ? d : e;
+int k = (b || c) ? d : e;
+int l = b ? (c || d) : e;
+int m = b ? c : (d || e);
+int n = (b ? c : d) || e;
+int o = b || (c ? d : e);
+int p = b = (c ? d : e);
+int q = -(b ? c : d);
+int r = (int) (b ? c : d);
+int s = b ? -c : -d;
+int t = b ? *c : &d;
+int u = f(b ? c : d, (e ? g : h));
+int v = b == c ? d + e : f << g;

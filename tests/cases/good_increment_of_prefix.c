@@ -1,0 +1,14 @@
+int a = ++*x;
+int b = --*x;
+int c = ++ ++x;
+int d = ++--x;
+int e = -- --x;
+int f = --++x;
+int g = ++ -x;
+int h = -- -x;
+int i = ++ +x;
+int j = ++!x;
+int k = ++~x;
+int l = ++&x;
+int m = ++(++x);
+int n = --(-x);

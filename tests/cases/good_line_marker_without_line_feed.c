@@ -1,0 +1,2 @@
+int x;
+#line 7

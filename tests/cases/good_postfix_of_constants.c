@@ -1,0 +1,17 @@
+int a = 1[x];
+int b = 1(x);
+int c = 1 .x;
+int d = 1.5 .x;
+int e = 1->x;
+int f = 1++;
+int g = 1--;
+int h = 'a'.x;
+int i = 'a'++;
+int j = "abc"[1];
+int k = "abc".x;
+int l = "abc"->x;
+int m = "abc"++;
+int n = (1).x;
+int o = 0x1F->x;
+int p = 1.->x;
+int q = (1)[x];

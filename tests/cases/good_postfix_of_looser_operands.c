@@ -1,0 +1,14 @@
+int a = (x + y)[1];
+int b = (x ? y : z).m;
+int c = (x = y)->m;
+int d = (x, y)(1);
+int e = ((int) x)[1];
+int f = ((int) x)++;
+int g = (sizeof x)[1];
+int h = (sizeof (int))[1];
+int i = (~x).m;
+int j = (x * y)--;
+int k = (*f)(a);
+int l = (**f)(a);
+int m = (&s)->m;
+int n = (--x)--;

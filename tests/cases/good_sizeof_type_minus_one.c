@@ -1,0 +1,1 @@
+int a = sizeof (int) - 1;
