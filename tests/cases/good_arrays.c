@@ -1,0 +1,17 @@
+int a[1];
+int b[1 + 2];
+int c[(1 + 2) * 3];
+int d[];
+int e[][3];
+int f[1][2][3];
+int g[sizeof (int)];
+int h[sizeof x];
+int i[x ? 1 : 2];
+int j['a'];
+int k["abc"[0]];
+int l[-1];
+int m[(int) 1.5];
+int n[f(1)];
+int o[&x == 0];
+int p[*x];
+int q[x[1]];

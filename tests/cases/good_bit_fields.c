@@ -1,0 +1,22 @@
+struct s {
+    int a:1;
+    unsigned b : 2, c : 3;
+    int :4;
+    int : 0;
+    int d:1, :2, e:3;
+    int f, g : 1, *h, : 0;
+    unsigned : 3, : 4;
+    const i : 1;
+    const : 2;
+    signed j : 1 + 2;
+    int k : (1);
+    int l : sizeof (int);
+    int m : A;
+    int n : a ? b : c;
+    int (o) : 1;
+    enum e : 3;
+    enum e p : 3;
+    struct t : 4;
+    int *q : 5;
+    int r[2] : 6;
+};

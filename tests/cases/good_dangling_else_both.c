@@ -1,0 +1,1 @@
+void f(void) { if (a) if (b) x(); else y(); else z(); }

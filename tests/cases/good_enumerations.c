@@ -1,0 +1,10 @@
+enum a { B };
+enum c { D, E, F };
+enum g { H = 1, I, J = 2 };
+enum k { L = 1 + 2, M = -1, N = 'a', O = L };
+enum p { Q = (1), R = sizeof (int), S = (int) 1.5 };
+enum { T, U } v, w = T;
+enum x y = L;
+enum z { A1 = B ? D : E, B1 = B | D, C1 = (B, D) } *d1;
+enum { E1 };
+enum { F1 = 1 } g1();

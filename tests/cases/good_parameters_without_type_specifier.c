@@ -1,0 +1,12 @@
+int a(const x);
+int b(register x);
+int c(volatile *x);
+int d(const x[3]);
+int e(const);
+int f(const *);
+int g(register);
+int h(const x, register y, volatile);
+int i(const (*x));
+int j(const x(void));
+int k(const volatile register x);
+int l(const, ...);

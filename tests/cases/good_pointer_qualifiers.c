@@ -1,0 +1,13 @@
+int *const a;
+int * const volatile b;
+int *volatile*c;
+int *const*const d;
+int **const e;
+const int *f;
+int const *const g;
+int (*const h)[3];
+int (*const i)(void);
+int *const (*j)(void);
+int * const const k;
+char * volatile (*l[3])(void);
+int f(int *const, int *const p, int (*const)(void), const *q);

@@ -1,0 +1,15 @@
+int;
+const;
+static;
+typedef;
+typedef int;
+struct s;
+struct s { int a; };
+union u;
+enum e;
+enum e { A };
+enum { B };
+struct { int a; };
+const struct s;
+unsigned long;
+extern int;

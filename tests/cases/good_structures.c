@@ -1,0 +1,14 @@
+struct a { int b; };
+struct c { int d, e; };
+struct f { int g; char h; };
+struct i { int *j, k[3], (*l)(void), m(void); };
+struct n { struct n *next; struct o *p; };
+struct q { struct r { int s; } t; union { int u; float v; } w; };
+struct x { struct { struct { int y; } z; } z1; } z2;
+struct a1 { const int b1; volatile c1; int const d1; };
+struct e1 { enum f1 { G1, H1 = 2 } i1; };
+struct j1 { unsigned long k1; long double l1; };
+union m1 { int n1; char o1[4]; };
+struct p1 { int q1[2][3]; int (*r1)[3]; };
+struct s1 { const t1, *u1; };
+struct v1 { int (*w1)(int, ...); int x1(a, b); };

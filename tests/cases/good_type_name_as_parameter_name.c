@@ -1,0 +1,18 @@
+typedef int T;
+int f(int T);
+int g(T T);
+int h(int T, int x[sizeof (T)]);
+int i(int x[sizeof (T)], int T);
+int j(int T[3]), k(int *T), l(int T(void));
+int m(const T);
+int n(const T, register T x);
+int o(unsigned T);
+int p(struct s T, int y);
+int q(int (*T)(T), int x[sizeof (T)]);
+int r(int (T), T x);
+int s(int *(T), int (*)(T));
+int t(T (*), T (*x), T ([3]), T ());
+int u(T (T), T y);
+int v(int (T (T)), T y);
+int w(T, T);
+T x;

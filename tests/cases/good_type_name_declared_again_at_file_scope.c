@@ -1,0 +1,10 @@
+typedef int T;
+T a;
+typedef char T;
+T b;
+int T;
+int c = T * 2;
+typedef T;
+T d;
+enum { T };
+int e = (T) + 1;

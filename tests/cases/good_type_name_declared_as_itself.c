@@ -1,0 +1,3 @@
+typedef int T;
+T T;
+int a = T * T;
