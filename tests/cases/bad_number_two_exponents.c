@@ -1,0 +1,1 @@
+double x = 1e5e5;

@@ -1,0 +1,1 @@
+int f(int a[sizeof (int (*)(int (y)))]);

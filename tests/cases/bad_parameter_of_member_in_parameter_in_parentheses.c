@@ -1,0 +1,1 @@
+int f(struct { int (*g)(int (y)); } p);

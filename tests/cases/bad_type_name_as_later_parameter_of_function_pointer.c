@@ -1,0 +1,1 @@
+int f(int (*g)(int T), T x);

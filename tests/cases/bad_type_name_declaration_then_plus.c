@@ -1,0 +1,1 @@
+typedef int T; void f(void) { T (x) + 1; }

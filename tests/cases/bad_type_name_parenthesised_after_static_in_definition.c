@@ -1,0 +1,1 @@
+typedef int T; static (T)(void) { }

@@ -1,0 +1,1 @@
+int f(struct { int (x); } p, int a[sizeof (struct { char (y); })]);

@@ -1,0 +1,10 @@
+int a = sizeof (struct { int a; }[3]);
+int b(struct { int a; } (void));
+struct { int a; } (*c)[3], d[2], (*e)(void), f(void), (g);
+enum { A } *h, i[A];
+struct s { struct { int a; } b, : 3; struct { int c; } : 4; enum { B } : B; };
+struct { int a; } const j;
+union { int a; } volatile *k;
+struct { int a; } static l = { 1 };
+typedef struct { int a; } T;
+T m = { { 1 }, { 2 }, }, n = { { { 3 } } };

@@ -1,0 +1,2 @@
+typedef int T;
+T (*p)[3], *q(void);

@@ -1,0 +1,2 @@
+typedef int T;
+void f(void) { T; T: ; T: T: f(); }

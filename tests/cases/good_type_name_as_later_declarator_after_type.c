@@ -1,0 +1,3 @@
+typedef int T;
+int x, T, *y;
+int z = T;

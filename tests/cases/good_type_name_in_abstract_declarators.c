@@ -1,0 +1,14 @@
+typedef int T;
+int f(const (T));
+int g(int (T)[3]);
+int h(int (*(T)));
+int i(T (T), T ((T)), T (*(*)(T))(T));
+int a = (int (T)) b;
+int c = sizeof (int (T));
+int d = sizeof (T ());
+int e = sizeof (T (T, T *));
+int j = (T *(*)(T)) b;
+int k = (T const) b + sizeof (T const *);
+int l = sizeof (T (*[3])[4]);
+int m(T *, T **, T *[3], T (*)[3], T *(*)(void));
+int n(register T, const T, T const, volatile T *);
