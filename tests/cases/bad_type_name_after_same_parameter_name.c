@@ -1,0 +1,1 @@
+typedef int T, U; int f(T U, U x);

@@ -1,0 +1,1 @@
+typedef int T, U; int x = (T U) y;

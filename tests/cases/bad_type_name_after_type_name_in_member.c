@@ -1,0 +1,1 @@
+typedef int T, U; struct s { T U x; };

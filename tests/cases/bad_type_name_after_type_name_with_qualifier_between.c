@@ -1,0 +1,1 @@
+typedef int T, U; T const U x;

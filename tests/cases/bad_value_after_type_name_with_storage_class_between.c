@@ -1,0 +1,1 @@
+typedef int T; T static U x;
