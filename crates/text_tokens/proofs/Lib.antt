@@ -10,3 +10,5 @@ pub mod Prefixes
 pub mod Layouts
 pub mod Cuts
 pub mod Places
+pub mod Parts
+pub mod Tidy
