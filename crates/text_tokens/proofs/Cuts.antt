@@ -3,6 +3,7 @@ use Rattle.std.proofs.Common.{◌≡◌, refl, ℕ, Bool, true, false, not, ◌&
 use Rattle.c_tokens.specs.declared.token.Punct.TheVariants as punct
 use Rattle.c_tokens.specs.declared.token.Shape.{Shape}
 use Rattle.c_tokens.specs.declared.token.Shape.TheVariants as s
+use Rattle.c_tokens.specs.declared.token.Word.{Word}
 use Rattle.c_tokens.proofs.Tables.{and_true}
 use Rattle.c_layout.specs.declared.marks.Use.{Use}
 use Rattle.c_layout.specs.declared.marks.Mark.{Mark}
@@ -115,6 +116,18 @@ one_token a u f c = record { uncut = (tt, tt); first = f; last = c }
 -- an operand and what ends it
 pub operand_suffix : (a : List Mark) (b : Shape) (v : Use) → Clean a → is_some a ≡ true → is_calm b ≡ true → Clean (a ++ mark.Token b v ∷ [])
 operand_suffix a b v h e c = record { uncut = uncut_both a (mark.Token b v ∷ []) h.uncut h.last (tt, tt); first = begins_some a (mark.Token b v ∷ []) e h.first; last = ends_both a (mark.Token b v ∷ []) h.last c }
+
+word_next : (b : Shape) (w : Word) (x : Use) → is_cut b (s.Word w) x ≡ false
+word_next (s.Punct punct.Dot) w x = refl
+word_next (s.Punct punct.Minus) w x = refl
+word_next (s.Punct punct.Plus) w x = refl
+word_next _ w x = refl
+
+-- an operand, the sign of a member and its name
+pub operand_member : (a : List Mark) (b : Shape) (v : Use) (w : Word) (x : Use) → Clean a → is_some a ≡ true → Clean (a ++ mark.Token b v ∷ mark.Token (s.Word w) x ∷ [])
+operand_member a b v w x h e =
+    let m : List Mark = mark.Token b v ∷ mark.Token (s.Word w) x ∷ []
+    in record { uncut = uncut_both a m h.uncut h.last (word_next b w x, (tt, tt)); first = begins_some a m e h.first; last = ends_both a m h.last refl }
 
 abbrev pub is_point : Shape → Bool
 is_point (s.Punct punct.Dot) = true

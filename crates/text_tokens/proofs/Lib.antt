@@ -12,3 +12,5 @@ pub mod Cuts
 pub mod Places
 pub mod Parts
 pub mod Tidy
+pub mod Standing
+pub mod Free

@@ -76,3 +76,19 @@ some_enclosed false ms h = h
 
 pub some_placed : (due depth : ℕ) (h : Head) → SomeHead h → is_some (placed due depth h) ≡ true
 some_placed due depth h all = some_enclosed (nat_lt (level h.form) due) (h.marks depth) (all depth)
+
+some_body : (goes_on : Bool) (due depth : ℕ) (h : Head) → SomeHead h → is_some (body goes_on due depth h) ≡ true
+some_body true due depth h all = some_placed due depth h all
+some_body false due depth h all = refl
+
+pub some_part : (s : Standing) (due depth : ℕ) (h : Head) → SomeHead h → is_some (part s due depth h) ≡ true
+some_part stands.Along due depth h all = some_placed due depth h all
+some_part stands.Body due depth h all = some_body (is_block h.form) due depth h all
+some_part stands.BodyOfDo due depth h all = some_before (body (is_block h.form) due depth h) (line depth ∷ []) (some_body (is_block h.form) due depth h all)
+some_part stands.BodyOfElse due depth h all = some_body (follows_else h.form) due depth h all
+
+pub some_elements : (g : GroupStanding) (separator : List Mark) (due depth : ℕ) (h : Head) (hs : List Head) → SomeHead h → is_some (elements g separator due depth (h ∷ hs)) ≡ true
+some_elements stand.Along separator due depth h hs all = some_before (placed due depth h) (others false separator due depth hs) (some_placed due depth h all)
+some_elements stand.Inside separator due depth h hs all = refl
+some_elements stand.Declarations separator due depth h hs all = refl
+some_elements stand.Else separator due depth h hs all = refl

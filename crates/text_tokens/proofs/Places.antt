@@ -3,28 +3,7 @@ use Rattle.std.proofs.Common.{◌≡◌, refl, Bool, true, false, not, ◌&&◌}
 use Rattle.c_forms.specs.declared.pieces.Sort.{Sort}
 use Rattle.c_forms.specs.declared.pieces.Sort.TheVariants as s
 use Rattle.c_forms.specs.Places.{serves}
-
--- neither of meta code, nor of patterns, nor of groups without a token
-abbrev pub is_of_c : Sort → Bool
-is_of_c s.MetaExp = false
-is_of_c s.Template = false
-is_of_c s.Shape = false
-is_of_c s.MetaStmt = false
-is_of_c s.MetaBlock = false
-is_of_c s.Local = false
-is_of_c s.Element = false
-is_of_c s.Binder = false
-is_of_c s.Repeated = false
-is_of_c s.Argument = false
-is_of_c s.Round = false
-is_of_c s.Rounds = false
-is_of_c s.List = false
-is_of_c s.Row = false
-is_of_c s.MetaElsePart = false
-is_of_c s.Assignment = false
-is_of_c s.MetaValue = false
-is_of_c s.MetaParam = false
-is_of_c _ = true
+use Rattle.text_tokens.specs.Plain.{is_of_c}
 
 no_metaexp : (due : Sort) → (is_of_c due && serves s.MetaExp due) ≡ false
 no_metaexp s.Exp = refl

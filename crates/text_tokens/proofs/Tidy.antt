@@ -40,16 +40,7 @@ use Rattle.c_forms.specs.Fits.{least_of}
 use Rattle.c_forms.specs.Tokens.{held}
 use Rattle.c_layout.specs.Marks.{use_of, separator_of, shape_of}
 use Rattle.text_tokens.proofs.Cuts.{is_fresh, is_calm}
-use Rattle.text_tokens.proofs.Places.{is_of_c}
-
--- ---- which forms are of plain C
-
-abbrev pub is_of_c_as : Occupant → Bool
-is_of_c_as (what.Sort sort) = is_of_c sort
-is_of_c_as _ = false
-
-abbrev pub is_c : Form → Bool
-is_c f = is_plain f && is_of_c_as (occupant_of f)
+use Rattle.text_tokens.specs.Plain.{is_of_c, is_c}
 
 -- of the forms of a sort each node has a token: expressions, identifiers and literals
 abbrev pub is_solid : Sort → Bool

@@ -1,3 +1,4 @@
 pub mod Written
 pub mod Neighbours
 pub mod Marks
+pub mod Plain
