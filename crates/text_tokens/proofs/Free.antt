@@ -23,7 +23,7 @@ use Rattle.c_forms.specs.declared.forms.Form.{Form}
 use Rattle.c_forms.specs.declared.forms.Form.TheVariants as form
 use Rattle.c_forms.specs.Forests.{Plain, Forest, empty, tree}
 use Rattle.c_forms.specs.Measures.{pieces, is_plain}
-use Rattle.c_forms.specs.Places.{occupant_of, stands}
+use Rattle.c_forms.specs.Places.{occupant_of, stands, joins}
 use Rattle.c_forms.specs.Fits.{number, all_stand, all_join, is_spliced, is_single, least_of, elements, fits}
 use Rattle.c_forms.specs.Rules.{is_nothing, among_rules, is_right}
 use Rattle.c_forms.specs.Tokens.{held, unary_token, binary_token}
@@ -50,6 +50,7 @@ marks_of f ps depth = put (pieces f) f (laid ps) depth
 -- what is known of the layout of a node
 record Node (f : Form) (ps : Forest) : Type 0 where
   plain : is_plain f ≡ true
+  pure_parts : pure ps ≡ true
   clean : is_c f ≡ true → (depth : ℕ) → Clean (marks_of f ps depth)
   some : is_solid_as (occupant_of f) ≡ true → (depth : ℕ) → is_some (marks_of f ps depth) ≡ true
 
@@ -60,21 +61,22 @@ Nodes (tree f s ps rest) = Node f ps × (Nodes ps × Nodes rest)
 
 -- ---- elements
 
-all_standing : (due : Sort) (es : Forest) → Nodes es → all_join due es ≡ true → all_stand due es ≡ true
-all_standing due empty n h = refl
-all_standing due (tree f s ps rest) n h =
-    let b = and_true _ (all_join due rest) h in
-    ap (λ x. x && all_stand due rest) (joins-stands f due n.0.plain b.0) ∙ all_standing due rest n.1.1 b.1
+all_standing : (due : Sort) (es : Forest) → pure es ≡ true → all_join due es ≡ true → all_stand due es ≡ true
+all_standing due empty p h = refl
+all_standing due (tree f s ps rest) p h =
+    let b = and_true (joins f due) (all_join due rest) h in
+    let c = and_true (is_plain f && pure ps) (pure rest) p in
+    ap (λ x. x && all_stand due rest) (joins-stands f due (and_true (is_plain f) (pure ps) c.0).0 b.0) ∙ all_standing due rest c.1 b.1
 
-spliced_or_not : (b : Bool) (due : Sort) (es : Forest) → Nodes es → cond b (all_join due es) (all_stand due es) ≡ true → all_stand due es ≡ true
-spliced_or_not true due es n h = all_standing due es n h
-spliced_or_not false due es n h = h
+spliced_or_not : (b : Bool) (due : Sort) (es : Forest) → pure es ≡ true → cond b (all_join due es) (all_stand due es) ≡ true → all_stand due es ≡ true
+spliced_or_not true due es p h = all_standing due es p h
+spliced_or_not false due es p h = h
 
-elements_stand : (r : Repetition) (due : Sort) (es : Forest) → Nodes es → elements r due es ≡ true → all_stand due es ≡ true
-elements_stand r due es n h =
+pub elements-stand : (r : Repetition) (due : Sort) (es : Forest) → pure es ≡ true → elements r due es ≡ true → all_stand due es ≡ true
+elements-stand r due es p h =
     let single : Bool = not (is_single r) || nat_lt (number es) 2 in
     let a = and_true (cond (is_spliced r) (all_join due es) (all_stand due es) && nat_lt (least_of r) (number es + 1)) single h in
-    spliced_or_not (is_spliced r) due es n (and_true _ (nat_lt (least_of r) (number es + 1)) a.0).0
+    spliced_or_not (is_spliced r) due es p (and_true (cond (is_spliced r) (all_join due es) (all_stand due es)) (nat_lt (least_of r) (number es + 1)) a.0).0
 
 clean_heads : (due : Sort) (es : Forest) → is_of_c due ≡ true → Nodes es → all_stand due es ≡ true → CleanHeads (heads (laid es))
 clean_heads due empty d n h = tt
@@ -106,7 +108,7 @@ clean_put (Group r due least ∷ q) f (tree g s es rest) depth t h n =
     let k = and_true _ (fits q rest) h in
     let l = and_true (stands g sort.List) (elements r due es) k.0 in
     both (laid_elements (standing_of_group due) (if_any (token_in f (separator_of r))) least depth (heads (laid es))) _
-    (clean_elements (standing_of_group due) (if_any (token_in f (separator_of r))) least depth (heads (laid es)) (neat_token f (separator_of r) c.0) (clean_heads due es b.0 n.1.0 (elements_stand r due es n.1.0 l.1)))
+    (clean_elements (standing_of_group due) (if_any (token_in f (separator_of r))) least depth (heads (laid es)) (neat_token f (separator_of r) c.0) (clean_heads due es b.0 n.1.0 (elements-stand r due es n.0.pure_parts l.1)))
     (clean_put q f rest depth c.1 k.1 n.1.1)
 clean_put (Maybe c ∷ q) f ts depth t h n = clean_put q f ts depth t h n
 clean_put (Then e ∷ q) f ts depth t h n = clean_put q f ts depth t h n
@@ -143,7 +145,7 @@ some_put (Group r due least ∷ q) f (tree g s (tree e t ps es) rest) depth o h 
     let b = and_true (is_solid due) (nat_lt 0 (least_of r)) o in
     let k = and_true _ (fits q rest) h in
     let l = and_true (stands g sort.List) (elements r due (tree e t ps es)) k.0 in
-    let m = and_true (stands e due) (all_stand due es) (elements_stand r due (tree e t ps es) n.1.0 l.1) in
+    let m = and_true (stands e due) (all_stand due es) (elements-stand r due (tree e t ps es) n.0.pure_parts l.1) in
     some_before (laid_elements (standing_of_group due) (if_any (token_in f (separator_of r))) least depth (heads (laid (tree e t ps es)))) (put q f (laid rest) depth)
     (some_elements (standing_of_group due) (if_any (token_in f (separator_of r))) least depth (record { form = e; marks = marks_of e ps }) (heads (laid es)) (n.1.0.0.some (stands-solid e due n.1.0.0.plain b.0 m.0)))
 some_put [] f ts depth o h n = absurd cc
@@ -292,10 +294,11 @@ fits_if false o h = absurd cc
 pub right-fits : (f : Form) (ps : Forest) → is_right f ps ≡ true → fits (pieces f) ps ≡ true
 right-fits f ps h = fits_if (fits (pieces f) ps) (among_rules f ps) h
 
-node : (f : Form) (ps : Forest) → is_plain f ≡ true → is_right f ps ≡ true → Nodes ps → Node f ps
-node f ps p r n =
+node : (f : Form) (ps : Forest) → is_plain f ≡ true → pure ps ≡ true → is_right f ps ≡ true → Nodes ps → Node f ps
+node f ps p u r n =
     record {
       plain = p;
+      pure_parts = u;
       clean = λ c. λ depth. row_clean (is_special f) f ps depth refl c (right-fits f ps r) n;
       some = λ k. λ depth. some_put (pieces f) f ps depth (solid_opens f p k) (right-fits f ps r) n
     }
@@ -308,7 +311,7 @@ nodes (tree f s ps rest) v p =
     let c = and_true (is_plain f && pure ps) (pure rest) p in
     let d = and_true (is_plain f) (pure ps) c.0 in
     let n = nodes ps b.1 d.1 in
-    (node f ps d.0 b.0 n, (n, nodes rest a.1 c.1))
+    (node f ps d.0 d.1 b.0 n, (n, nodes rest a.1 c.1))
 
 -- No two neighbours in the layout of a tree that is valid and of plain C go on one another.
 pub layout-free : (t : Plain) → is_c t.form ≡ true → valid_tree t ≡ true → pure_tree t ≡ true → AllFree (layout t)
@@ -316,4 +319,4 @@ layout-free t c v p =
     let a = and_true (is_right t.form t.parts) (valid t.parts) v in
     let b = and_true (is_plain t.form) (pure t.parts) p in
     let n = nodes t.parts a.1 b.1 in
-    clean_free (layout t) (both (line 0 ∷ []) _ (one_line 0) ((node t.form t.parts b.0 a.0 n).clean c 0)) (layout-no_equal_prefix t)
+    clean_free (layout t) (both (line 0 ∷ []) _ (one_line 0) ((node t.form t.parts b.0 b.1 a.0 n).clean c 0)) (layout-no_equal_prefix t)

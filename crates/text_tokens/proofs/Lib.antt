@@ -14,3 +14,4 @@ pub mod Parts
 pub mod Tidy
 pub mod Standing
 pub mod Free
+pub mod Words

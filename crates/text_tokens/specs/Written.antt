@@ -1,5 +1,5 @@
 -- Tokens whose texts stand for them.
-use Rattle.std.specs.Prelude.{◌≡◌, ℕ, ◌<◌, List, [], ◌∷◌, ◌++◌, length, map, Some, Ok}
+use Rattle.std.specs.Prelude.{◌≡◌, ℕ, ◌<◌, List, [], ◌∷◌, ◌++◌, length, map, Option, Some, None, Ok}
 use Rattle.c_tokens.specs.declared.lexical.Dialect.TheVariants.{C90}
 use Rattle.c_tokens.specs.declared.token.Shape.{Shape}
 use Rattle.c_tokens.specs.declared.token.Shape.TheVariants as s
@@ -7,6 +7,8 @@ use Rattle.c_tokens.specs.declared.token.Token.{Token}
 use Rattle.c_tokens.specs.declared.token.Word.{Word}
 use Rattle.c_tokens.specs.Spelling.{Sort, word, integer, floating, character, string, token, spelling_of}
 use Rattle.c_tokens.specs.Tokens.{tokens_of}
+use Rattle.c_forms.specs.Forests.{Plain, Forest, empty, tree}
+use Rattle.c_forms.specs.Tokens.{held}
 use Rattle.c_layout.specs.declared.marks.Mark.{Mark}
 use Rattle.c_layout.specs.declared.marks.Mark.TheVariants as mark
 use Rattle.c_text.specs.Texts.{text_of_word}
@@ -33,6 +35,20 @@ abbrev pub AllWritten : List (List ℕ) → List Mark → Type 0
 AllWritten names [] = Unit {0}
 AllWritten names (mark.Line depth ∷ ms) = AllWritten names ms
 AllWritten names (mark.Token a u ∷ ms) = IsWritten names a × AllWritten names ms
+
+-- a token that a form holds, if it holds one
+abbrev pub IsWrittenIfAny : List (List ℕ) → Option Shape → Type 0
+IsWrittenIfAny names None = Unit {0}
+IsWrittenIfAny names (Some a) = IsWritten names a
+
+-- the words, constants and literals of the nodes of trees
+abbrev pub AreWritten : List (List ℕ) → Forest → Type 0
+AreWritten names empty = Unit {0}
+AreWritten names (tree f s ps rest) = IsWrittenIfAny names (held f) × (AreWritten names ps × AreWritten names rest)
+
+-- those of a tree
+abbrev pub TreeIsWritten : List (List ℕ) → Plain → Type 0
+TreeIsWritten names t = IsWrittenIfAny names (held t.form) × AreWritten names t.parts
 
 -- The tokens of a text are these and End.
 pub record HasTokens (names : List (List ℕ)) (bytes : List ℕ) (shapes : List Shape) : Type 0 where

@@ -1,0 +1,240 @@
+-- Where the tokens that the nodes of a tree of plain C hold are written, those that its rows name are.
+use Rattle.std.proofs.Common.{◌≡◌, refl, sym, subst, ℕ, Bool, true, false, not, ◌&&◌, ◌||◌, nat_lt, ◌+◌, cond, List, [], ◌∷◌, Option, Some, None}
+use Rattle.c_tokens.specs.declared.token.Shape.{Shape}
+use Rattle.c_tokens.specs.declared.token.Shape.TheVariants as shape
+use Rattle.c_tokens.proofs.Tables.{and_true}
+use Rattle.c_forms.specs.declared.operators.AssignmentOperator.{AssignmentOperator}
+use Rattle.c_forms.specs.declared.operators.AssignmentOperator.TheVariants as assignment
+use Rattle.c_forms.specs.declared.operators.BinaryOperator.{BinaryOperator}
+use Rattle.c_forms.specs.declared.operators.BinaryOperator.TheVariants as operator
+use Rattle.c_forms.specs.declared.operators.StorageClass.{StorageClass}
+use Rattle.c_forms.specs.declared.operators.StorageClass.TheVariants as storage
+use Rattle.c_forms.specs.declared.pieces.Sort.{Sort}
+use Rattle.c_forms.specs.declared.pieces.Sort.TheVariants as sort
+use Rattle.c_forms.specs.declared.pieces.Repetition.{Repetition}
+use Rattle.c_forms.specs.declared.pieces.Piece.{Piece}
+use Rattle.c_forms.specs.declared.pieces.Piece.TheVariants.{Token, Maybe, Own, TypeTokens, KindName, One, Group, Rest, Anything, Then}
+use Rattle.c_forms.specs.declared.forms.ExpForm.{ExpForm}
+use Rattle.c_forms.specs.declared.forms.ExpForm.TheVariants as exp
+use Rattle.c_forms.specs.declared.forms.SpecForm.{SpecForm}
+use Rattle.c_forms.specs.declared.forms.SpecForm.TheVariants as spec
+use Rattle.c_forms.specs.declared.forms.DeclaratorForm.{DeclaratorForm}
+use Rattle.c_forms.specs.declared.forms.DeclaratorForm.TheVariants as declarator
+use Rattle.c_forms.specs.declared.forms.ParamsForm.{ParamsForm}
+use Rattle.c_forms.specs.declared.forms.ParamsForm.TheVariants as params
+use Rattle.c_forms.specs.declared.forms.InitForm.{InitForm}
+use Rattle.c_forms.specs.declared.forms.InitForm.TheVariants as init
+use Rattle.c_forms.specs.declared.forms.StmtForm.{StmtForm}
+use Rattle.c_forms.specs.declared.forms.StmtForm.TheVariants as stmt
+use Rattle.c_forms.specs.declared.forms.ItemForm.{ItemForm}
+use Rattle.c_forms.specs.declared.forms.ItemForm.TheVariants as item
+use Rattle.c_forms.specs.declared.forms.TemplateForm.{TemplateForm}
+use Rattle.c_forms.specs.declared.forms.TemplateForm.TheVariants as template
+use Rattle.c_forms.specs.declared.forms.GroupForm.{GroupForm}
+use Rattle.c_forms.specs.declared.forms.GroupForm.TheVariants as group
+use Rattle.c_forms.specs.declared.forms.Form.{Form}
+use Rattle.c_forms.specs.declared.forms.Form.TheVariants as form
+use Rattle.c_forms.specs.Forests.{Plain, Forest, empty, tree}
+use Rattle.c_forms.specs.Measures.{pieces, is_plain}
+use Rattle.c_forms.specs.Places.{stands}
+use Rattle.c_forms.specs.Fits.{all_stand, elements, fits}
+use Rattle.c_forms.specs.Rules.{is_right}
+use Rattle.c_forms.specs.Tokens.{held}
+use Rattle.c_trees.specs.Valid.{valid, valid_tree}
+use Rattle.c_trees.specs.Counts.{pure, pure_tree}
+use Rattle.c_layout.specs.Marks.{separator_of, shape_of, token_in, if_any}
+use Rattle.text_tokens.specs.Plain.{is_of_c, is_c}
+use Rattle.text_tokens.specs.Written.{IsWrittenIfAny, AreWritten, TreeIsWritten}
+use Rattle.text_tokens.specs.Marks.{All, AllOfPieces, AllOfRows, IsWrittenMark}
+use Rattle.text_tokens.proofs.Standing.{stands-is_c, stands-list}
+use Rattle.text_tokens.proofs.Free.{right-fits, elements-stand}
+
+-- ---- rows without a token of the macro notation
+
+-- a keyword or a punctuator, or none
+abbrev is_fixed : Option Shape → Bool
+is_fixed None = true
+is_fixed (Some (shape.Key k)) = true
+is_fixed (Some (shape.Punct p)) = true
+is_fixed _ = false
+
+abbrev is_spelled : List Piece → Bool
+is_spelled [] = true
+is_spelled (Token c ∷ q) = is_fixed (shape_of c) && is_spelled q
+is_spelled (Own ∷ q) = is_spelled q
+is_spelled (One due least ∷ q) = is_of_c due && is_spelled q
+is_spelled (Group r due least ∷ q) = is_of_c due && (is_fixed (separator_of r) && is_spelled q)
+is_spelled (Maybe c ∷ q) = is_spelled q
+is_spelled (Then e ∷ q) = is_spelled q
+is_spelled (TypeTokens ∷ q) = is_spelled q
+is_spelled (KindName ∷ q) = is_spelled q
+is_spelled (Rest due ∷ q) = false
+is_spelled (Anything ∷ q) = false
+
+spelled_binary : (o : BinaryOperator) → is_spelled (pieces (form.Exp (exp.Binary o))) ≡ true
+spelled_binary operator.LogicalOr = refl
+spelled_binary _ = refl
+
+spelled_exp : (e : ExpForm) → is_spelled (pieces (form.Exp e)) ≡ true
+spelled_exp (exp.Binary o) = spelled_binary o
+spelled_exp _ = refl
+
+spelled_storage : (c : StorageClass) → is_spelled (pieces (form.Spec (spec.Storage c))) ≡ true
+spelled_storage storage.Typedef = refl
+spelled_storage _ = refl
+
+spelled_spec : (f : SpecForm) → is_spelled (pieces (form.Spec f)) ≡ true
+spelled_spec (spec.Storage c) = spelled_storage c
+spelled_spec _ = refl
+
+spelled_declarator : (f : DeclaratorForm) → is_spelled (pieces (form.Declarator f)) ≡ true
+spelled_declarator declarator.Named = refl
+spelled_declarator _ = refl
+
+spelled_params : (f : ParamsForm) → is_spelled (pieces (form.Params f)) ≡ true
+spelled_params params.Ids = refl
+spelled_params _ = refl
+
+spelled_init : (f : InitForm) → is_spelled (pieces (form.Init f)) ≡ true
+spelled_init init.One = refl
+spelled_init _ = refl
+
+spelled_stmt : (f : StmtForm) → is_spelled (pieces (form.Stmt f)) ≡ true
+spelled_stmt stmt.Label = refl
+spelled_stmt _ = refl
+
+spelled_item : (f : ItemForm) → is_c (form.Item f) ≡ true → is_spelled (pieces (form.Item f)) ≡ true
+spelled_item item.Function h = refl
+spelled_item item.Declaration h = refl
+spelled_item _ h = absurd cc
+
+no_template : (f : TemplateForm) → is_c (form.Template f) ≡ true → ⊥
+no_template (template.Many k) h = absurd cc
+no_template _ h = absurd cc
+
+spelled_group : (f : GroupForm) → is_c (form.Group f) ≡ true → is_spelled (pieces (form.Group f)) ≡ true
+spelled_group group.InitDeclarator h = refl
+spelled_group group.Initializer h = refl
+spelled_group group.MemberDeclarator h = refl
+spelled_group group.Width h = refl
+spelled_group group.Members h = refl
+spelled_group group.Enumerators h = refl
+spelled_group group.EnumeratorValue h = refl
+spelled_group group.ElsePart h = refl
+spelled_group _ h = absurd cc
+
+spelled : (f : Form) → is_c f ≡ true → is_spelled (pieces f) ≡ true
+spelled (form.Exp e) h = spelled_exp e
+spelled form.TypeName h = refl
+spelled form.Specs h = refl
+spelled (form.Spec f) h = spelled_spec f
+spelled form.Member h = refl
+spelled form.Enumerator h = refl
+spelled (form.Declarator f) h = spelled_declarator f
+spelled (form.Params f) h = spelled_params f
+spelled form.Param h = refl
+spelled (form.Init f) h = spelled_init f
+spelled form.Decl h = refl
+spelled (form.Stmt f) h = spelled_stmt f
+spelled (form.Item f) h = spelled_item f h
+spelled (form.Id w) h = refl
+spelled (form.Literal w) h = refl
+spelled (form.Template f) h = absurd (no_template f h)
+spelled (form.Group f) h = spelled_group f h
+spelled _ h = absurd cc
+
+-- ---- their tokens
+
+module _ (names : List (List ℕ)) where
+  fixed_written : (f : Form) (o : Option Shape) → is_fixed o ≡ true → All (IsWrittenMark names) (if_any (token_in f o))
+  fixed_written f None h = tt
+  fixed_written f (Some (shape.Key k)) h = (tt, tt)
+  fixed_written f (Some (shape.Punct p)) h = (tt, tt)
+  fixed_written f (Some _) h = absurd cc
+
+  held_written : (f : Form) (o : Option Shape) → IsWrittenIfAny names o → All (IsWrittenMark names) (if_any (token_in f o))
+  held_written f None h = tt
+  held_written f (Some a) h = (h, tt)
+
+  pieces_written : (f : Form) (q : List Piece) → is_spelled q ≡ true → IsWrittenIfAny names (held f) → AllOfPieces (IsWrittenMark names) f q
+  pieces_written f [] h w = tt
+  pieces_written f (Token c ∷ q) h w = let b = and_true (is_fixed (shape_of c)) (is_spelled q) h in (fixed_written f (shape_of c) b.0, pieces_written f q b.1 w)
+  pieces_written f (Own ∷ q) h w = (held_written f (held f) w, pieces_written f q h w)
+  pieces_written f (One due least ∷ q) h w = pieces_written f q (and_true (is_of_c due) (is_spelled q) h).1 w
+  pieces_written f (Group r due least ∷ q) h w =
+      let b = and_true (is_of_c due) (is_fixed (separator_of r) && is_spelled q) h in
+      let c = and_true (is_fixed (separator_of r)) (is_spelled q) b.1 in
+      (fixed_written f (separator_of r) c.0, pieces_written f q c.1 w)
+  pieces_written f (Maybe c ∷ q) h w = pieces_written f q h w
+  pieces_written f (Then e ∷ q) h w = pieces_written f q h w
+  pieces_written f (TypeTokens ∷ q) h w = pieces_written f q h w
+  pieces_written f (KindName ∷ q) h w = pieces_written f q h w
+  pieces_written f (Rest due ∷ q) h w = absurd cc
+  pieces_written f (Anything ∷ q) h w = absurd cc
+
+  abbrev NodeIsWritten : Form → Forest → Type 0
+  NodeIsWritten f ps = AllOfPieces (IsWrittenMark names) f (pieces f) × AllOfRows (IsWrittenMark names) ps
+
+  -- each node of plain C in a forest, where all are valid and plain
+  abbrev NodesAreWritten : Forest → Type 0
+  NodesAreWritten empty = Unit {0}
+  NodesAreWritten (tree f s ps rest) = (is_c f ≡ true → NodeIsWritten f ps) × (NodesAreWritten ps × NodesAreWritten rest)
+
+  elements_written : (due : Sort) (es : Forest) → is_of_c due ≡ true → all_stand due es ≡ true → pure es ≡ true → NodesAreWritten es → AllOfRows (IsWrittenMark names) es
+  elements_written due empty d h p n = tt
+  elements_written due (tree f s ps rest) d h p n =
+      let a = and_true (stands f due) (all_stand due rest) h in
+      let b = and_true (is_plain f && pure ps) (pure rest) p in
+      let w = n.0 (stands-is_c f due (and_true (is_plain f) (pure ps) b.0).0 d a.0) in
+      (w.0, (w.1, elements_written due rest d a.1 b.1 n.1.1))
+
+  list_written : (f : Form) → is_plain f ≡ true → stands f sort.List ≡ true → AllOfPieces (IsWrittenMark names) f (pieces f)
+  list_written f p h = subst (λ f. AllOfPieces (IsWrittenMark names) f (pieces f)) (sym (stands-list f p h)) tt
+
+  parts_written : (q : List Piece) (ts : Forest) → is_spelled q ≡ true → fits q ts ≡ true → pure ts ≡ true → NodesAreWritten ts → AllOfRows (IsWrittenMark names) ts
+  parts_written [] empty k h p n = tt
+  parts_written [] (tree f s ps rest) k h p n = absurd cc
+  parts_written (Token c ∷ q) ts k h p n = parts_written q ts (and_true (is_fixed (shape_of c)) (is_spelled q) k).1 h p n
+  parts_written (Own ∷ q) ts k h p n = parts_written q ts k h p n
+  parts_written (One due least ∷ q) empty k h p n = tt
+  parts_written (One due least ∷ q) (tree f s ps rest) k h p n =
+      let a = and_true (stands f due) (fits q rest) h in
+      let b = and_true (is_plain f && pure ps) (pure rest) p in
+      let c = and_true (is_of_c due) (is_spelled q) k in
+      let w = n.0 (stands-is_c f due (and_true (is_plain f) (pure ps) b.0).0 c.0 a.0) in
+      (w.0, (w.1, parts_written q rest c.1 a.1 b.1 n.1.1))
+  parts_written (Group r due least ∷ q) empty k h p n = tt
+  parts_written (Group r due least ∷ q) (tree f s es rest) k h p n =
+      let a = and_true (stands f sort.List && elements r due es) (fits q rest) h in
+      let l = and_true (stands f sort.List) (elements r due es) a.0 in
+      let b = and_true (is_plain f && pure es) (pure rest) p in
+      let e = and_true (is_plain f) (pure es) b.0 in
+      let c = and_true (is_of_c due) (is_fixed (separator_of r) && is_spelled q) k in
+      let d = and_true (is_fixed (separator_of r)) (is_spelled q) c.1 in
+      (list_written f e.0 l.0, (elements_written due es c.0 (elements-stand r due es e.1 l.1) e.1 n.1.0, parts_written q rest d.1 a.1 b.1 n.1.1))
+  parts_written (Maybe c ∷ q) ts k h p n = parts_written q ts k h p n
+  parts_written (Then e ∷ q) ts k h p n = parts_written q ts k h p n
+  parts_written (TypeTokens ∷ q) ts k h p n = parts_written q ts k h p n
+  parts_written (KindName ∷ q) ts k h p n = parts_written q ts k h p n
+  parts_written (Rest due ∷ q) ts k h p n = absurd cc
+  parts_written (Anything ∷ q) ts k h p n = absurd cc
+
+  node_written : (f : Form) (ps : Forest) → is_c f ≡ true → is_right f ps ≡ true → pure ps ≡ true → IsWrittenIfAny names (held f) → NodesAreWritten ps → NodeIsWritten f ps
+  node_written f ps c r p w n = (pieces_written f (pieces f) (spelled f c) w, parts_written (pieces f) ps (spelled f c) (right-fits f ps r) p n)
+
+  nodes_written : (t : Forest) → valid t ≡ true → pure t ≡ true → AreWritten names t → NodesAreWritten t
+  nodes_written empty v p w = tt
+  nodes_written (tree f s ps rest) v p w =
+      let a = and_true (is_right f ps && valid ps) (valid rest) v in
+      let b = and_true (is_right f ps) (valid ps) a.0 in
+      let c = and_true (is_plain f && pure ps) (pure rest) p in
+      let d = and_true (is_plain f) (pure ps) c.0 in
+      let n = nodes_written ps b.1 d.1 w.1.0 in
+      ((λ k. node_written f ps k b.0 d.1 w.0 n), (n, nodes_written rest a.1 c.1 w.1.1))
+
+  -- The tokens that the rows of a tree name are written.
+  pub tree-written : (t : Plain) → is_c t.form ≡ true → valid_tree t ≡ true → pure_tree t ≡ true → TreeIsWritten names t → NodeIsWritten t.form t.parts
+  tree-written t c v p w =
+      let a = and_true (is_right t.form t.parts) (valid t.parts) v in
+      let b = and_true (is_plain t.form) (pure t.parts) p in
+      node_written t.form t.parts c a.0 b.1 w.0 (nodes_written t.parts a.1 b.1 w.1)
