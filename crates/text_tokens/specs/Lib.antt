@@ -2,3 +2,4 @@ pub mod Written
 pub mod Neighbours
 pub mod Marks
 pub mod Plain
+pub mod Items
