@@ -4,7 +4,6 @@ use Rattle.c_tokens.specs.ClassOf.{class_of}
 use Rattle.c_tokens.specs.declared.token.Punct.TheVariants as punct
 use Rattle.c_tokens.specs.declared.token.Shape.{Shape}
 use Rattle.c_tokens.specs.declared.token.Shape.TheVariants as shape
-use Rattle.c_tokens.specs.declared.token.Word.{Word}
 use Rattle.c_tokens.proofs.Tables.{and_true}
 use Rattle.c_forms.specs.declared.operators.UnaryOperator.{UnaryOperator}
 use Rattle.c_forms.specs.declared.operators.UnaryOperator.TheVariants as unary
@@ -31,17 +30,16 @@ use Rattle.c_trees.specs.Valid.{valid, valid_tree}
 use Rattle.c_trees.specs.Counts.{pure, pure_tree}
 use Rattle.c_layout.specs.declared.marks.Use.TheVariants as use_as
 use Rattle.c_layout.specs.declared.marks.Mark.{Mark}
-use Rattle.c_layout.specs.declared.marks.Mark.TheVariants as mark
 use Rattle.c_layout.specs.Marks.{line, use_of, separator_of, shape_of, token_in, if_any}
 use Rattle.c_layout.specs.Standing.{standing_of_part, standing_of_group}
-use Rattle.c_layout.specs.Layout.{Head, heads, part, placed, put, laid, layout}
+use Rattle.c_layout.specs.Layout.{heads, part, placed, put, laid, layout}
 use Rattle.c_layout.specs.Layout.{elements as laid_elements}
 use Rattle.text_tokens.specs.Neighbours.{AllFree}
 use Rattle.text_tokens.specs.Plain.{is_of_c, is_c}
 use Rattle.text_tokens.proofs.Prefixes.{layout-no_equal_prefix}
 use Rattle.text_tokens.proofs.Cuts.{is_calm, is_fresh, is_point, is_some, Clean, none, both, one_line, one_token, operand_suffix, operand_member, operator_operand, clean_free}
 use Rattle.text_tokens.proofs.Parts.{CleanHeads, clean_placed, clean_part, clean_elements, some_before, some_placed, some_part, some_elements}
-use Rattle.text_tokens.proofs.Tidy.{is_solid, is_solid_as, is_neat, is_tidy, is_special, is_special_exp, tidy, has_token, opens, solid_opens}
+use Rattle.text_tokens.proofs.Tidy.{is_solid, is_solid_as, is_fixed, is_spelled, spelled, is_neat, is_tidy, is_special, is_special_exp, tidy, has_token, opens, solid_opens}
 use Rattle.text_tokens.proofs.Standing.{joins-stands, stands-is_c, stands-solid, stands-id}
 
 abbrev marks_of : Form → Forest → ℕ → List Mark
@@ -90,32 +88,37 @@ neat_token : (f : Form) (o : Option Shape) → is_neat f o ≡ true → Clean (i
 neat_token f None h = none
 neat_token f (Some t) h = let b = and_true (is_fresh t (use_of f (class_of t))) (is_calm t) h in one_token t (use_of f (class_of t)) b.0 b.1
 
-clean_put : (q : List Piece) (f : Form) (ts : Forest) (depth : ℕ) → is_tidy f q ≡ true → fits q ts ≡ true → Nodes ts → Clean (put q f (laid ts) depth)
-clean_put [] f ts depth t h n = none
-clean_put (Token c ∷ q) f ts depth t h n = let b = and_true (is_neat f (shape_of c)) (is_tidy f q) t in both (if_any (token_in f (shape_of c))) _ (neat_token f (shape_of c) b.0) (clean_put q f ts depth b.1 h n)
-clean_put (Own ∷ q) f ts depth t h n = let b = and_true (is_neat f (held f)) (is_tidy f q) t in both (if_any (token_in f (held f))) _ (neat_token f (held f) b.0) (clean_put q f ts depth b.1 h n)
-clean_put (One due least ∷ q) f empty depth t h n = none
-clean_put (One due least ∷ q) f (tree g s ps rest) depth t h n =
-    let b = and_true (is_of_c due) (is_tidy f q) t in
-    let k = and_true (stands g due) (fits q rest) h in
+clean_put : (q : List Piece) (f : Form) (ts : Forest) (depth : ℕ) → is_spelled q ≡ true → is_tidy f q ≡ true → fits q ts ≡ true → Nodes ts → Clean (put q f (laid ts) depth)
+clean_put [] f ts depth k t h n = none
+clean_put (Token c ∷ q) f ts depth k t h n =
+    let b = and_true (is_neat f (shape_of c)) (is_tidy f q) t in
+    both (if_any (token_in f (shape_of c))) _ (neat_token f (shape_of c) b.0) (clean_put q f ts depth (and_true (is_fixed (shape_of c)) (is_spelled q) k).1 b.1 h n)
+clean_put (Own ∷ q) f ts depth k t h n =
+    let b = and_true (is_neat f (held f)) (is_tidy f q) t in
+    both (if_any (token_in f (held f))) _ (neat_token f (held f) b.0) (clean_put q f ts depth k b.1 h n)
+clean_put (One due least ∷ q) f empty depth k t h n = none
+clean_put (One due least ∷ q) f (tree g s ps rest) depth k t h n =
+    let d = and_true (is_of_c due) (is_spelled q) k in
+    let a = and_true (stands g due) (fits q rest) h in
     both (part (standing_of_part f due) least depth (record { form = g; marks = marks_of g ps })) _
-    (clean_part (standing_of_part f due) least depth (record { form = g; marks = marks_of g ps }) (n.0.clean (stands-is_c g due n.0.plain b.0 k.0)))
-    (clean_put q f rest depth b.1 k.1 n.1.1)
-clean_put (Group r due least ∷ q) f empty depth t h n = none
-clean_put (Group r due least ∷ q) f (tree g s es rest) depth t h n =
-    let b = and_true (is_of_c due) (is_neat f (separator_of r) && is_tidy f q) t in
-    let c = and_true (is_neat f (separator_of r)) (is_tidy f q) b.1 in
-    let k = and_true _ (fits q rest) h in
-    let l = and_true (stands g sort.List) (elements r due es) k.0 in
+    (clean_part (standing_of_part f due) least depth (record { form = g; marks = marks_of g ps }) (n.0.clean (stands-is_c g due n.0.plain d.0 a.0)))
+    (clean_put q f rest depth d.1 t a.1 n.1.1)
+clean_put (Group r due least ∷ q) f empty depth k t h n = none
+clean_put (Group r due least ∷ q) f (tree g s es rest) depth k t h n =
+    let d = and_true (is_of_c due) (is_fixed (separator_of r) && is_spelled q) k in
+    let e = and_true (is_fixed (separator_of r)) (is_spelled q) d.1 in
+    let b = and_true (is_neat f (separator_of r)) (is_tidy f q) t in
+    let a = and_true (stands g sort.List && elements r due es) (fits q rest) h in
+    let l = and_true (stands g sort.List) (elements r due es) a.0 in
     both (laid_elements (standing_of_group due) (if_any (token_in f (separator_of r))) least depth (heads (laid es))) _
-    (clean_elements (standing_of_group due) (if_any (token_in f (separator_of r))) least depth (heads (laid es)) (neat_token f (separator_of r) c.0) (clean_heads due es b.0 n.1.0 (elements-stand r due es n.0.pure_parts l.1)))
-    (clean_put q f rest depth c.1 k.1 n.1.1)
-clean_put (Maybe c ∷ q) f ts depth t h n = clean_put q f ts depth t h n
-clean_put (Then e ∷ q) f ts depth t h n = clean_put q f ts depth t h n
-clean_put (TypeTokens ∷ q) f ts depth t h n = clean_put q f ts depth t h n
-clean_put (KindName ∷ q) f ts depth t h n = clean_put q f ts depth t h n
-clean_put (Rest due ∷ q) f ts depth t h n = absurd cc
-clean_put (Anything ∷ q) f ts depth t h n = absurd cc
+    (clean_elements (standing_of_group due) (if_any (token_in f (separator_of r))) least depth (heads (laid es)) (neat_token f (separator_of r) b.0) (clean_heads due es d.0 n.1.0 (elements-stand r due es n.0.pure_parts l.1)))
+    (clean_put q f rest depth e.1 b.1 a.1 n.1.1)
+clean_put (Maybe c ∷ q) f ts depth k t h n = clean_put q f ts depth k t h n
+clean_put (Then e ∷ q) f ts depth k t h n = clean_put q f ts depth k t h n
+clean_put (TypeTokens ∷ q) f ts depth k t h n = clean_put q f ts depth k t h n
+clean_put (KindName ∷ q) f ts depth k t h n = clean_put q f ts depth k t h n
+clean_put (Rest due ∷ q) f ts depth k t h n = absurd cc
+clean_put (Anything ∷ q) f ts depth k t h n = absurd cc
 
 -- ---- rows that begin with a token
 
@@ -283,7 +286,7 @@ special _ ts depth k h n = absurd cc
 
 row_clean : (b : Bool) (f : Form) (ts : Forest) (depth : ℕ) → is_special f ≡ b → is_c f ≡ true → fits (pieces f) ts ≡ true → Nodes ts → Clean (marks_of f ts depth)
 row_clean true f ts depth k c h n = special f ts depth k h n
-row_clean false f ts depth k c h n = clean_put (pieces f) f ts depth (tidy f c k) h n
+row_clean false f ts depth k c h n = clean_put (pieces f) f ts depth (spelled f c) (tidy f c k) h n
 
 -- ---- all nodes
 
@@ -300,7 +303,7 @@ node f ps p u r n =
       plain = p;
       pure_parts = u;
       clean = λ c. λ depth. row_clean (is_special f) f ps depth refl c (right-fits f ps r) n;
-      some = λ k. λ depth. some_put (pieces f) f ps depth (solid_opens f p k) (right-fits f ps r) n
+      some = λ k. λ depth. some_put (pieces f) f ps depth (solid_opens f p k) (right-fits f ps r) n;
     }
 
 nodes : (t : Forest) → valid t ≡ true → pure t ≡ true → Nodes t

@@ -1,13 +1,11 @@
 -- The text of a layout has the tokens that the table says of the tree.
-use Rattle.std.proofs.Common.{◌≡◌, refl, ap, ◌∙◌, ℕ, true, ◌&&◌, bytes_eq, List, [], ◌∷◌, ◌++◌, subst}
+use Rattle.std.proofs.Common.{◌≡◌, refl, ap, ◌∙◌, ℕ, true, bytes_eq, List, [], ◌∷◌, ◌++◌, subst}
 use Rattle.std.specs.List.{IsDistinct}
 use Rattle.std.specs.Prelude.{flat_map}
-use Rattle.c_tokens.specs.declared.token.Shape.{Shape}
 use Rattle.c_tokens.proofs.Tables.{and_true}
 use Rattle.c_forms.specs.declared.pieces.Sort.TheVariants.{Item}
 use Rattle.c_forms.specs.Forests.{Plain}
-use Rattle.c_forms.specs.Measures.{pieces, is_plain}
-use Rattle.c_forms.specs.Places.{stands}
+use Rattle.c_forms.specs.Measures.{is_plain}
 use Rattle.c_trees.specs.Valid.{valid_tree}
 use Rattle.c_trees.specs.Counts.{pure, pure_tree}
 use Rattle.c_layout.specs.declared.marks.Mark.{Mark}

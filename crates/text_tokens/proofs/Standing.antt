@@ -1,7 +1,6 @@
 -- What may stand where plain C is due is of plain C, and an expression where one is due.
-use Rattle.std.proofs.Common.{◌≡◌, refl, ap, ◌∙◌, Bool, true, false, not, ◌&&◌}
+use Rattle.std.proofs.Common.{◌≡◌, refl, Bool, true, false, not, ◌&&◌}
 use Rattle.c_tokens.specs.declared.token.Word.{Word}
-use Rattle.c_tokens.proofs.Tables.{and_true}
 use Rattle.c_forms.specs.declared.pieces.Sort.{Sort}
 use Rattle.c_forms.specs.declared.pieces.Sort.TheVariants as s
 use Rattle.c_forms.specs.declared.places.Occupant.{Occupant}

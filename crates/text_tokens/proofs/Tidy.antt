@@ -1,7 +1,9 @@
 -- The rows of plain C: which of their tokens may go on one another, and which never do.
-use Rattle.std.proofs.Common.{◌≡◌, refl, ℕ, Bool, true, false, not, ◌&&◌, nat_lt, List, [], ◌∷◌, Option, Some, None}
+use Rattle.std.proofs.Common.{◌≡◌, refl, Bool, true, false, ◌&&◌, ◌||◌, nat_lt, List, [], ◌∷◌, Option, Some, None}
 use Rattle.c_tokens.specs.ClassOf.{class_of}
 use Rattle.c_tokens.specs.declared.token.Shape.{Shape}
+use Rattle.c_tokens.specs.declared.token.Shape.TheVariants as shape
+use Rattle.c_tokens.proofs.Tables.{and_true}
 use Rattle.c_forms.specs.declared.operators.AssignmentOperator.{AssignmentOperator}
 use Rattle.c_forms.specs.declared.operators.AssignmentOperator.TheVariants as assignment
 use Rattle.c_forms.specs.declared.operators.BinaryOperator.{BinaryOperator}
@@ -54,6 +56,28 @@ abbrev pub is_solid_as : Occupant → Bool
 is_solid_as (what.Sort sort) = is_solid sort
 is_solid_as _ = false
 
+-- ---- tokens of C
+
+-- a keyword or a punctuator, or none
+abbrev pub is_fixed : Option Shape → Bool
+is_fixed None = true
+is_fixed (Some (shape.Key k)) = true
+is_fixed (Some (shape.Punct p)) = true
+is_fixed _ = false
+
+abbrev pub is_spelled : List Piece → Bool
+is_spelled [] = true
+is_spelled (Token c ∷ q) = is_fixed (shape_of c) && is_spelled q
+is_spelled (Own ∷ q) = is_spelled q
+is_spelled (One due least ∷ q) = is_of_c due && is_spelled q
+is_spelled (Group r due least ∷ q) = is_of_c due && (is_fixed (separator_of r) && is_spelled q)
+is_spelled (Maybe c ∷ q) = is_spelled q
+is_spelled (Then e ∷ q) = is_spelled q
+is_spelled (TypeTokens ∷ q) = is_spelled q
+is_spelled (KindName ∷ q) = is_spelled q
+is_spelled (Rest due ∷ q) = false
+is_spelled (Anything ∷ q) = false
+
 -- ---- tokens that go on no other and on which none goes on
 
 abbrev pub is_neat : Form → Option Shape → Bool
@@ -64,8 +88,8 @@ abbrev pub is_tidy : Form → List Piece → Bool
 is_tidy f [] = true
 is_tidy f (Token c ∷ q) = is_neat f (shape_of c) && is_tidy f q
 is_tidy f (Own ∷ q) = is_neat f (held f) && is_tidy f q
-is_tidy f (One due least ∷ q) = is_of_c due && is_tidy f q
-is_tidy f (Group r due least ∷ q) = is_of_c due && (is_neat f (separator_of r) && is_tidy f q)
+is_tidy f (One due least ∷ q) = is_tidy f q
+is_tidy f (Group r due least ∷ q) = is_neat f (separator_of r) && is_tidy f q
 is_tidy f (Maybe c ∷ q) = is_tidy f q
 is_tidy f (Then e ∷ q) = is_tidy f q
 is_tidy f (TypeTokens ∷ q) = is_tidy f q
@@ -87,84 +111,96 @@ abbrev pub is_special : Form → Bool
 is_special (form.Exp e) = is_special_exp e
 is_special _ = false
 
-tidy_assign : (o : AssignmentOperator) → is_tidy (form.Exp (exp.Assign o)) (pieces (form.Exp (exp.Assign o))) ≡ true
-tidy_assign assignment.Assign = refl
-tidy_assign _ = refl
+-- A row has tokens of C alone, and asks for what is of plain C; but for these forms its tokens go on no other.
+abbrev is_sound : Form → Bool
+is_sound f = is_spelled (pieces f) && (is_special f || is_tidy f (pieces f))
 
-tidy_exp : (e : ExpForm) → is_special_exp e ≡ false → is_tidy (form.Exp e) (pieces (form.Exp e)) ≡ true
-tidy_exp (exp.Unary o) h = absurd cc
-tidy_exp (exp.Binary o) h = absurd cc
-tidy_exp exp.Field h = absurd cc
-tidy_exp exp.Arrow h = absurd cc
-tidy_exp exp.PostInc h = absurd cc
-tidy_exp exp.PostDec h = absurd cc
-tidy_exp (exp.Assign o) h = tidy_assign o
-tidy_exp _ h = refl
+sound_binary : (o : BinaryOperator) → is_sound (form.Exp (exp.Binary o)) ≡ true
+sound_binary operator.LogicalOr = refl
+sound_binary _ = refl
 
-tidy_storage : (c : StorageClass) → is_tidy (form.Spec (spec.Storage c)) (pieces (form.Spec (spec.Storage c))) ≡ true
-tidy_storage storage.Typedef = refl
-tidy_storage _ = refl
+sound_assign : (o : AssignmentOperator) → is_sound (form.Exp (exp.Assign o)) ≡ true
+sound_assign assignment.Assign = refl
+sound_assign _ = refl
 
-tidy_spec : (f : SpecForm) → is_tidy (form.Spec f) (pieces (form.Spec f)) ≡ true
-tidy_spec (spec.Storage c) = tidy_storage c
-tidy_spec _ = refl
+sound_exp : (e : ExpForm) → is_sound (form.Exp e) ≡ true
+sound_exp (exp.Binary o) = sound_binary o
+sound_exp (exp.Assign o) = sound_assign o
+sound_exp _ = refl
 
-tidy_declarator : (f : DeclaratorForm) → is_tidy (form.Declarator f) (pieces (form.Declarator f)) ≡ true
-tidy_declarator declarator.Named = refl
-tidy_declarator _ = refl
+sound_storage : (c : StorageClass) → is_sound (form.Spec (spec.Storage c)) ≡ true
+sound_storage storage.Typedef = refl
+sound_storage _ = refl
 
-tidy_params : (f : ParamsForm) → is_tidy (form.Params f) (pieces (form.Params f)) ≡ true
-tidy_params params.Ids = refl
-tidy_params _ = refl
+sound_spec : (f : SpecForm) → is_sound (form.Spec f) ≡ true
+sound_spec (spec.Storage c) = sound_storage c
+sound_spec _ = refl
 
-tidy_init : (f : InitForm) → is_tidy (form.Init f) (pieces (form.Init f)) ≡ true
-tidy_init init.One = refl
-tidy_init _ = refl
+sound_declarator : (f : DeclaratorForm) → is_sound (form.Declarator f) ≡ true
+sound_declarator declarator.Named = refl
+sound_declarator _ = refl
 
-tidy_stmt : (f : StmtForm) → is_tidy (form.Stmt f) (pieces (form.Stmt f)) ≡ true
-tidy_stmt stmt.Label = refl
-tidy_stmt _ = refl
+sound_params : (f : ParamsForm) → is_sound (form.Params f) ≡ true
+sound_params params.Ids = refl
+sound_params _ = refl
 
-tidy_item : (f : ItemForm) → is_c (form.Item f) ≡ true → is_tidy (form.Item f) (pieces (form.Item f)) ≡ true
-tidy_item item.Function h = refl
-tidy_item item.Declaration h = refl
-tidy_item _ h = absurd cc
+sound_init : (f : InitForm) → is_sound (form.Init f) ≡ true
+sound_init init.One = refl
+sound_init _ = refl
+
+sound_stmt : (f : StmtForm) → is_sound (form.Stmt f) ≡ true
+sound_stmt stmt.Label = refl
+sound_stmt _ = refl
+
+sound_item : (f : ItemForm) → is_c (form.Item f) ≡ true → is_sound (form.Item f) ≡ true
+sound_item item.Function h = refl
+sound_item item.Declaration h = refl
+sound_item _ h = absurd cc
 
 no_template : (f : TemplateForm) → is_c (form.Template f) ≡ true → ⊥
 no_template (template.Many k) h = absurd cc
 no_template _ h = absurd cc
 
-tidy_group : (f : GroupForm) → is_c (form.Group f) ≡ true → is_tidy (form.Group f) (pieces (form.Group f)) ≡ true
-tidy_group group.InitDeclarator h = refl
-tidy_group group.Initializer h = refl
-tidy_group group.MemberDeclarator h = refl
-tidy_group group.Width h = refl
-tidy_group group.Members h = refl
-tidy_group group.Enumerators h = refl
-tidy_group group.EnumeratorValue h = refl
-tidy_group group.ElsePart h = refl
-tidy_group _ h = absurd cc
+sound_group : (f : GroupForm) → is_c (form.Group f) ≡ true → is_sound (form.Group f) ≡ true
+sound_group group.InitDeclarator h = refl
+sound_group group.Initializer h = refl
+sound_group group.MemberDeclarator h = refl
+sound_group group.Width h = refl
+sound_group group.Members h = refl
+sound_group group.Enumerators h = refl
+sound_group group.EnumeratorValue h = refl
+sound_group group.ElsePart h = refl
+sound_group _ h = absurd cc
 
--- All rows but those of these forms have such tokens alone, and ask for what is of plain C.
+sound : (f : Form) → is_c f ≡ true → is_sound f ≡ true
+sound (form.Exp e) h = sound_exp e
+sound form.TypeName h = refl
+sound form.Specs h = refl
+sound (form.Spec f) h = sound_spec f
+sound form.Member h = refl
+sound form.Enumerator h = refl
+sound (form.Declarator f) h = sound_declarator f
+sound (form.Params f) h = sound_params f
+sound form.Param h = refl
+sound (form.Init f) h = sound_init f
+sound form.Decl h = refl
+sound (form.Stmt f) h = sound_stmt f
+sound (form.Item f) h = sound_item f h
+sound (form.Id w) h = refl
+sound (form.Literal w) h = refl
+sound (form.Template f) h = absurd (no_template f h)
+sound (form.Group f) h = sound_group f h
+sound _ h = absurd cc
+
+pub spelled : (f : Form) → is_c f ≡ true → is_spelled (pieces f) ≡ true
+spelled f h = (and_true (is_spelled (pieces f)) (is_special f || is_tidy f (pieces f)) (sound f h)).0
+
+other : (a b : Bool) → (a || b) ≡ true → a ≡ false → b ≡ true
+other true b h n = absurd cc
+other false b h n = h
+
 pub tidy : (f : Form) → is_c f ≡ true → is_special f ≡ false → is_tidy f (pieces f) ≡ true
-tidy (form.Exp e) h n = tidy_exp e n
-tidy form.TypeName h n = refl
-tidy form.Specs h n = refl
-tidy (form.Spec f) h n = tidy_spec f
-tidy form.Member h n = refl
-tidy form.Enumerator h n = refl
-tidy (form.Declarator f) h n = tidy_declarator f
-tidy (form.Params f) h n = tidy_params f
-tidy form.Param h n = refl
-tidy (form.Init f) h n = tidy_init f
-tidy form.Decl h n = refl
-tidy (form.Stmt f) h n = tidy_stmt f
-tidy (form.Item f) h n = tidy_item f h
-tidy (form.Id w) h n = refl
-tidy (form.Literal w) h n = refl
-tidy (form.Template f) h n = absurd (no_template f h)
-tidy (form.Group f) h n = tidy_group f h
-tidy _ h n = absurd cc
+tidy f h n = other (is_special f) (is_tidy f (pieces f)) (and_true (is_spelled (pieces f)) (is_special f || is_tidy f (pieces f)) (sound f h)).1 n
 
 -- ---- rows that begin with a token
 

@@ -1,39 +1,13 @@
 -- Where the tokens that the nodes of a tree of plain C hold are written, those that its rows name are.
-use Rattle.std.proofs.Common.{◌≡◌, refl, sym, subst, ℕ, Bool, true, false, not, ◌&&◌, ◌||◌, nat_lt, ◌+◌, cond, List, [], ◌∷◌, Option, Some, None}
+use Rattle.std.proofs.Common.{◌≡◌, sym, subst, ℕ, true, ◌&&◌, List, [], ◌∷◌, Option, Some, None}
 use Rattle.c_tokens.specs.declared.token.Shape.{Shape}
 use Rattle.c_tokens.specs.declared.token.Shape.TheVariants as shape
 use Rattle.c_tokens.proofs.Tables.{and_true}
-use Rattle.c_forms.specs.declared.operators.AssignmentOperator.{AssignmentOperator}
-use Rattle.c_forms.specs.declared.operators.AssignmentOperator.TheVariants as assignment
-use Rattle.c_forms.specs.declared.operators.BinaryOperator.{BinaryOperator}
-use Rattle.c_forms.specs.declared.operators.BinaryOperator.TheVariants as operator
-use Rattle.c_forms.specs.declared.operators.StorageClass.{StorageClass}
-use Rattle.c_forms.specs.declared.operators.StorageClass.TheVariants as storage
 use Rattle.c_forms.specs.declared.pieces.Sort.{Sort}
 use Rattle.c_forms.specs.declared.pieces.Sort.TheVariants as sort
-use Rattle.c_forms.specs.declared.pieces.Repetition.{Repetition}
 use Rattle.c_forms.specs.declared.pieces.Piece.{Piece}
 use Rattle.c_forms.specs.declared.pieces.Piece.TheVariants.{Token, Maybe, Own, TypeTokens, KindName, One, Group, Rest, Anything, Then}
-use Rattle.c_forms.specs.declared.forms.ExpForm.{ExpForm}
-use Rattle.c_forms.specs.declared.forms.ExpForm.TheVariants as exp
-use Rattle.c_forms.specs.declared.forms.SpecForm.{SpecForm}
-use Rattle.c_forms.specs.declared.forms.SpecForm.TheVariants as spec
-use Rattle.c_forms.specs.declared.forms.DeclaratorForm.{DeclaratorForm}
-use Rattle.c_forms.specs.declared.forms.DeclaratorForm.TheVariants as declarator
-use Rattle.c_forms.specs.declared.forms.ParamsForm.{ParamsForm}
-use Rattle.c_forms.specs.declared.forms.ParamsForm.TheVariants as params
-use Rattle.c_forms.specs.declared.forms.InitForm.{InitForm}
-use Rattle.c_forms.specs.declared.forms.InitForm.TheVariants as init
-use Rattle.c_forms.specs.declared.forms.StmtForm.{StmtForm}
-use Rattle.c_forms.specs.declared.forms.StmtForm.TheVariants as stmt
-use Rattle.c_forms.specs.declared.forms.ItemForm.{ItemForm}
-use Rattle.c_forms.specs.declared.forms.ItemForm.TheVariants as item
-use Rattle.c_forms.specs.declared.forms.TemplateForm.{TemplateForm}
-use Rattle.c_forms.specs.declared.forms.TemplateForm.TheVariants as template
-use Rattle.c_forms.specs.declared.forms.GroupForm.{GroupForm}
-use Rattle.c_forms.specs.declared.forms.GroupForm.TheVariants as group
 use Rattle.c_forms.specs.declared.forms.Form.{Form}
-use Rattle.c_forms.specs.declared.forms.Form.TheVariants as form
 use Rattle.c_forms.specs.Forests.{Plain, Forest, empty, tree}
 use Rattle.c_forms.specs.Measures.{pieces, is_plain}
 use Rattle.c_forms.specs.Places.{stands}
@@ -46,104 +20,9 @@ use Rattle.c_layout.specs.Marks.{separator_of, shape_of, token_in, if_any}
 use Rattle.text_tokens.specs.Plain.{is_of_c, is_c}
 use Rattle.text_tokens.specs.Written.{IsWrittenIfAny, AreWritten, TreeIsWritten}
 use Rattle.text_tokens.specs.Marks.{All, AllOfPieces, AllOfRows, IsWrittenMark}
+use Rattle.text_tokens.proofs.Tidy.{is_fixed, is_spelled, spelled}
 use Rattle.text_tokens.proofs.Standing.{stands-is_c, stands-list}
 use Rattle.text_tokens.proofs.Free.{right-fits, elements-stand}
-
--- ---- rows without a token of the macro notation
-
--- a keyword or a punctuator, or none
-abbrev is_fixed : Option Shape → Bool
-is_fixed None = true
-is_fixed (Some (shape.Key k)) = true
-is_fixed (Some (shape.Punct p)) = true
-is_fixed _ = false
-
-abbrev is_spelled : List Piece → Bool
-is_spelled [] = true
-is_spelled (Token c ∷ q) = is_fixed (shape_of c) && is_spelled q
-is_spelled (Own ∷ q) = is_spelled q
-is_spelled (One due least ∷ q) = is_of_c due && is_spelled q
-is_spelled (Group r due least ∷ q) = is_of_c due && (is_fixed (separator_of r) && is_spelled q)
-is_spelled (Maybe c ∷ q) = is_spelled q
-is_spelled (Then e ∷ q) = is_spelled q
-is_spelled (TypeTokens ∷ q) = is_spelled q
-is_spelled (KindName ∷ q) = is_spelled q
-is_spelled (Rest due ∷ q) = false
-is_spelled (Anything ∷ q) = false
-
-spelled_binary : (o : BinaryOperator) → is_spelled (pieces (form.Exp (exp.Binary o))) ≡ true
-spelled_binary operator.LogicalOr = refl
-spelled_binary _ = refl
-
-spelled_exp : (e : ExpForm) → is_spelled (pieces (form.Exp e)) ≡ true
-spelled_exp (exp.Binary o) = spelled_binary o
-spelled_exp _ = refl
-
-spelled_storage : (c : StorageClass) → is_spelled (pieces (form.Spec (spec.Storage c))) ≡ true
-spelled_storage storage.Typedef = refl
-spelled_storage _ = refl
-
-spelled_spec : (f : SpecForm) → is_spelled (pieces (form.Spec f)) ≡ true
-spelled_spec (spec.Storage c) = spelled_storage c
-spelled_spec _ = refl
-
-spelled_declarator : (f : DeclaratorForm) → is_spelled (pieces (form.Declarator f)) ≡ true
-spelled_declarator declarator.Named = refl
-spelled_declarator _ = refl
-
-spelled_params : (f : ParamsForm) → is_spelled (pieces (form.Params f)) ≡ true
-spelled_params params.Ids = refl
-spelled_params _ = refl
-
-spelled_init : (f : InitForm) → is_spelled (pieces (form.Init f)) ≡ true
-spelled_init init.One = refl
-spelled_init _ = refl
-
-spelled_stmt : (f : StmtForm) → is_spelled (pieces (form.Stmt f)) ≡ true
-spelled_stmt stmt.Label = refl
-spelled_stmt _ = refl
-
-spelled_item : (f : ItemForm) → is_c (form.Item f) ≡ true → is_spelled (pieces (form.Item f)) ≡ true
-spelled_item item.Function h = refl
-spelled_item item.Declaration h = refl
-spelled_item _ h = absurd cc
-
-no_template : (f : TemplateForm) → is_c (form.Template f) ≡ true → ⊥
-no_template (template.Many k) h = absurd cc
-no_template _ h = absurd cc
-
-spelled_group : (f : GroupForm) → is_c (form.Group f) ≡ true → is_spelled (pieces (form.Group f)) ≡ true
-spelled_group group.InitDeclarator h = refl
-spelled_group group.Initializer h = refl
-spelled_group group.MemberDeclarator h = refl
-spelled_group group.Width h = refl
-spelled_group group.Members h = refl
-spelled_group group.Enumerators h = refl
-spelled_group group.EnumeratorValue h = refl
-spelled_group group.ElsePart h = refl
-spelled_group _ h = absurd cc
-
-spelled : (f : Form) → is_c f ≡ true → is_spelled (pieces f) ≡ true
-spelled (form.Exp e) h = spelled_exp e
-spelled form.TypeName h = refl
-spelled form.Specs h = refl
-spelled (form.Spec f) h = spelled_spec f
-spelled form.Member h = refl
-spelled form.Enumerator h = refl
-spelled (form.Declarator f) h = spelled_declarator f
-spelled (form.Params f) h = spelled_params f
-spelled form.Param h = refl
-spelled (form.Init f) h = spelled_init f
-spelled form.Decl h = refl
-spelled (form.Stmt f) h = spelled_stmt f
-spelled (form.Item f) h = spelled_item f h
-spelled (form.Id w) h = refl
-spelled (form.Literal w) h = refl
-spelled (form.Template f) h = absurd (no_template f h)
-spelled (form.Group f) h = spelled_group f h
-spelled _ h = absurd cc
-
--- ---- their tokens
 
 module _ (names : List (List ℕ)) where
   fixed_written : (f : Form) (o : Option Shape) → is_fixed o ≡ true → All (IsWrittenMark names) (if_any (token_in f o))
