@@ -316,7 +316,7 @@ nodes (tree f s ps rest) v p =
     let n = nodes ps b.1 d.1 in
     (node f ps d.0 d.1 b.0 n, (n, nodes rest a.1 c.1))
 
--- The layout of a tree that is valid and of plain C
+-- The layout of a valid tree of plain C is clean.
 pub layout-clean : (t : Plain) → is_c t.form ≡ true → valid_tree t ≡ true → pure_tree t ≡ true → Clean (layout t)
 layout-clean t c v p =
     let a = and_true (is_right t.form t.parts) (valid t.parts) v in
@@ -324,6 +324,6 @@ layout-clean t c v p =
     let n = nodes t.parts a.1 b.1 in
     both (line 0 ∷ []) _ (one_line 0) ((node t.form t.parts b.0 b.1 a.0 n).clean c 0)
 
--- has no two neighbours that go on one another.
+-- So no two neighbours in it go on one another.
 pub layout-free : (t : Plain) → is_c t.form ≡ true → valid_tree t ≡ true → pure_tree t ≡ true → AllFree (layout t)
 layout-free t c v p = clean_free (layout t) (layout-clean t c v p) (layout-no_equal_prefix t)

@@ -65,6 +65,7 @@ is_fixed (Some (shape.Key k)) = true
 is_fixed (Some (shape.Punct p)) = true
 is_fixed _ = false
 
+-- pieces that name such tokens alone, and ask for what is of plain C
 abbrev pub is_spelled : List Piece → Bool
 is_spelled [] = true
 is_spelled (Token c ∷ q) = is_fixed (shape_of c) && is_spelled q
@@ -78,12 +79,14 @@ is_spelled (KindName ∷ q) = is_spelled q
 is_spelled (Rest due ∷ q) = false
 is_spelled (Anything ∷ q) = false
 
--- ---- tokens that go on no other and on which none goes on
+-- ---- tokens that go on no other
 
+-- a token that goes on with no other after it and ends no operand
 abbrev pub is_neat : Form → Option Shape → Bool
 is_neat f None = true
 is_neat f (Some t) = is_fresh t (use_of f (class_of t)) && is_calm t
 
+-- pieces that name such tokens alone
 abbrev pub is_tidy : Form → List Piece → Bool
 is_tidy f [] = true
 is_tidy f (Token c ∷ q) = is_neat f (shape_of c) && is_tidy f q
