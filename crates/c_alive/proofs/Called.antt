@@ -1,39 +1,64 @@
 -- What is promised of the calls that the grammar makes.
-use Rattle.std.proofs.Common.{◌≡◌, ◌∙◌, ◌<◌, ℕ, not, Bool, true, false, ap, List}
+use Rattle.std.proofs.Common.{◌≡◌, ◌∙◌, ◌<◌, ℕ, not, Bool, true, false, subst, ap, List, nat_eq}
 use Rattle.c_tokens.specs.declared.token.Shape.{Shape}
 use Rattle.c_forms.specs.declared.pieces.Sort.{Sort}
 use Rattle.c_forms.specs.declared.pieces.Sort.TheVariants as s
 use Rattle.c_forms.specs.Sets.{goes_on}
-use Rattle.c_reader.specs.States.{State, Kept}
-use Rattle.c_reader.specs.Readers.{Rule, Of, Opened, Call}
+use Rattle.c_reader.specs.States.{State, Kept, is_function}
+use Rattle.c_reader.specs.Readers.{Rule, Of, Opened, Found, Call}
+use Rattle.c_reader.proofs.Sets.{contrary}
 use Rattle.c_reader.proofs.Phrases.{Tokens, Finishes, fin_call, fin_map}
 use Rattle.c_reader.proofs.Live.{Calls, Live, live_map}
 use Rattle.c_syntax.specs.Reading.{called, deeper}
 use Rattle.c_syntax.specs.Grammar.{body}
 use Rattle.c_alive.proofs.Kept.{Still, is_item, is_called}
-use Rattle.c_alive.proofs.Phrased.{none_of, phrase}
+use Rattle.c_alive.proofs.Phrased.{none_of, phrase, past}
 use Rattle.c_alive.proofs.FitRows.{is_reached}
 
 abbrev pub follows : Rule → Tokens
-follows (Of due least) = none_of (goes_on due least)
+follows (Of due least) = none_of (past due least)
 follows Opened = none_of (goes_on s.Exp 15)
 
 abbrev pub at_reached : Rule → Bool
 at_reached (Of due least) = is_reached due least
 at_reached Opened = true
 
--- each is made where no function's declarator is due, and keeps the declarations around it
+-- the rules that are called where a function's declarator is due
+abbrev pub is_due : Rule → Bool
+is_due (Of s.Declarator least) = nat_eq least 1
+is_due (Of s.Qualifier least) = true
+is_due _ = false
+
+abbrev pub is_declarator : Rule → Bool
+is_declarator (Of s.Declarator least) = true
+is_declarator _ = false
+
+-- Each keeps the declarations around it, and a declarator that is due is a function's.
+abbrev pub GivesBy : Bool → Rule → List Kept → State → Type 0
+GivesBy false n a t = Still a t
+GivesBy true n a t = ((t.aside ≡ a) × (t.kept.is_function_due ≡ true)) × (is_declarator n ≡ true → is_function t ≡ true)
+
+abbrev pub Good : Rule → State → Shape → Type 0
+Good n z y = (is_called n ≡ true) × ((at_reached n ≡ true) × (z.kept.is_function_due ≡ true → is_due n ≡ true))
+
+abbrev pub Gives : Rule → State → Found → State → Type 0
+Gives n z x t = GivesBy z.kept.is_function_due n z.aside t
+
 abbrev pub calls : Calls
-calls = record {
-  Good = λ n z y. (is_called n ≡ true) × ((at_reached n ≡ true) × (z.kept.is_function_due ≡ false));
-  needs = λ n. 0;
-  following = follows;
-  Gives = λ n z x t. Still z.aside t;
-}
+calls = record { Good = Good; needs = λ n. 0; following = follows; Gives = Gives }
 
-pub live_called : (deep : ℕ) → 0 < deep → (due : Sort) (least : ℕ) → is_item due ≡ false → is_reached due least ≡ true → (a : List Kept) (z : State) (y : Shape) → Still a z → Live body calls deep z y (none_of (goes_on due least)) (λ _ t. Still a t) (called due least)
-live_called deep room due least h low a z y k = live_map body calls deep z y (λ _ t. Still a t) (none_of (goes_on due least)) (none_of (goes_on due least)) (λ _ t. Still a t) (Call (Of due least)) deeper (λ x q. q) (λ x t k. k)
-    ((ap not h, (low, k.1)), (room, ((λ x q. q), ((λ x t m. (m.0 ∙ k.0, m.1)), tt))))
+-- where none is due
+pub good : (n : Rule) (a : List Kept) (z : State) (y : Shape) → is_called n ≡ true → at_reached n ≡ true → Still a z → Good n z y
+good n a z y c r k = (c, (r, λ e. contrary z.kept.is_function_due e k.1))
 
-pub fin_called : (due : Sort) (least : ℕ) (a : List Kept) (z : State) → Finishes body z (none_of (goes_on due least)) (λ _ t. Still a t) (body (Of due least)) (phrase due) → Finishes body z (none_of (goes_on due least)) (λ _ t. Still a t) (called due least) (phrase due)
-fin_called due least a z F = fin_map body z (λ _ t. Still a t) (none_of (goes_on due least)) (λ _ t. Still a t) (Call (Of due least)) deeper (phrase due) (fin_call body z (none_of (goes_on due least)) (λ _ t. Still a t) (Of due least) (phrase due) F) (λ x t k. k)
+pub still : (n : Rule) (a : List Kept) (z : State) (x : Found) (t : State) → Still a z → Gives n z x t → Still a t
+still n a z x t k m = let given : GivesBy false n z.aside t = subst (λ b. GivesBy b n z.aside t) k.1 m in (given.0 ∙ k.0, given.1)
+
+pub live_rule : (deep : ℕ) → 0 < deep → (n : Rule) → is_called n ≡ true → at_reached n ≡ true → (a : List Kept) (z : State) (y : Shape) → Still a z → Live body calls deep z y (follows n) (λ _ t. Still a t) (Call n)
+live_rule deep room n c r a z y k = (good n a z y c r k, (room, ((λ x q. q), ((λ x t m. still n a z x t k m), tt))))
+
+pub live_called : (deep : ℕ) → 0 < deep → (due : Sort) (least : ℕ) → is_item due ≡ false → is_reached due least ≡ true → (a : List Kept) (z : State) (y : Shape) → Still a z → Live body calls deep z y (none_of (past due least)) (λ _ t. Still a t) (called due least)
+live_called deep room due least h low a z y k = live_map body calls deep z y (λ _ t. Still a t) (none_of (past due least)) (none_of (past due least)) (λ _ t. Still a t) (Call (Of due least)) deeper (λ x q. q) (λ x t k. k) (live_rule deep room (Of due least) (ap not h) low a z y k)
+
+pub fin_called : (due : Sort) (least : ℕ) (a : List Kept) (z : State) → Finishes body z (none_of (past due least)) (λ _ t. Still a t) (body (Of due least)) (phrase due) → Finishes body z (none_of (past due least)) (λ _ t. Still a t) (called due least) (phrase due)
+fin_called due least a z F = fin_map body z (λ _ t. Still a t) (none_of (past due least)) (λ _ t. Still a t) (Call (Of due least)) deeper (phrase due) (fin_call body z (none_of (past due least)) (λ _ t. Still a t) (Of due least) (phrase due) F) (λ x t k. k)

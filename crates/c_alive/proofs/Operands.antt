@@ -50,13 +50,24 @@ in_body s.Id least h a z k = fin_identifier a z (none_of (goes_on s.Id least)) k
 in_body _ least h a z k = absurd (cc h)
 
 module _ (deep : ℕ) (room : 0 < deep) where
+  operand_lives_at : (due : Sort) (least : ℕ) → operand due least ≡ true → (a : List Kept) (z : State) (y : Shape) → Still a z → Live body calls deep z y (none_of (goes_on due least)) (λ _ t. Still a t) (called due least)
+  operand_lives_at s.Exp least h a z y k = live_called deep room s.Exp least refl h a z y k
+  operand_lives_at s.Id least h a z y k = live_called deep room s.Id least refl refl a z y k
+  operand_lives_at s.TypeName least h a z y k = live_called deep room s.TypeName least refl refl a z y k
+  operand_lives_at _ least h a z y k = absurd (cc h)
+
   pub operand_lives : (b : Bool) (due : Sort) (least : ℕ) → operand due least ≡ true → (a : List Kept) (z : State) (y : Shape) → Still a z → Live body calls deep z y (none_of (goes_on due least)) (λ _ t. Still a t) (parts_by b called due least)
-  operand_lives true due least h a z y k = let o = operand_item due least h in live_called deep room due least o.0 o.1 a z y k
-  operand_lives false due least h a z y k = let o = operand_item due least h in live_called deep room due least o.0 o.1 a z y k
+  operand_lives true due least h a z y k = operand_lives_at due least h a z y k
+  operand_lives false due least h a z y k = operand_lives_at due least h a z y k
+
+operand_finishes_at : (due : Sort) (least : ℕ) → operand_ends due least ≡ true → (a : List Kept) (z : State) → Still a z → Finishes body z (none_of (goes_on due least)) (λ _ t. Still a t) (called due least) (phrase due)
+operand_finishes_at s.Exp least h a z k = fin_called s.Exp least a z (in_body s.Exp least h a z k)
+operand_finishes_at s.Id least h a z k = fin_called s.Id least a z (in_body s.Id least h a z k)
+operand_finishes_at _ least h a z k = absurd (cc h)
 
 pub operand_finishes : (b : Bool) (due : Sort) (least : ℕ) → operand_ends due least ≡ true → (a : List Kept) (z : State) → Still a z → Finishes body z (none_of (goes_on due least)) (λ _ t. Still a t) (parts_by b called due least) (phrase due)
-operand_finishes true due least h a z k = fin_called due least a z (in_body due least h a z k)
-operand_finishes false due least h a z k = fin_called due least a z (in_body due least h a z k)
+operand_finishes true due least h a z k = operand_finishes_at due least h a z k
+operand_finishes false due least h a z k = operand_finishes_at due least h a z k
 
 pub operand_leaves : (b : Bool) (due : Sort) (least : ℕ) → operand due least ≡ true → (a : List Kept) (z : State) (y : Shape) → Still a z → Leaves body z y (parts_by b called due least) (λ _ t. Still a t)
 operand_leaves true due least h a z y k = kept_called due least (operand_item due least h).0 a z y k

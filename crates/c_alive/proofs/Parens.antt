@@ -16,7 +16,7 @@ use Rattle.c_syntax.specs.Grammar.{body, sign, standing, parenthesized}
 use Rattle.c_alive.proofs.Kept.{Still, KeptBy, kept_call}
 use Rattle.c_alive.proofs.Phrased.{none_of, a_word, opens_if}
 use Rattle.c_alive.proofs.Operands.{in_body}
-use Rattle.c_alive.proofs.Called.{calls}
+use Rattle.c_alive.proofs.Called.{calls, live_rule}
 
 abbrev close : ℕ
 close = class_number (sign punct.RightParen)
@@ -48,7 +48,7 @@ module _ (a : List Kept) (past : Classes) where
 
   module _ (deep : ℕ) (room : 0 < deep) where
     live_paren : (z : State) (y : Shape) → Still a z → Live body calls deep z y (none_of past) Held (parenthesized s.Exp)
-    live_paren z y k = live_bind body calls deep z y Held Held (none_of (goes_on s.Exp 1)) (none_of past) Held (Call (Of s.Exp 1)) closing ((refl, (refl, k.1)), (room, ((λ x q. q), ((λ x t m. (m.0 ∙ k.0, m.1)), tt)))) (kept_one z y k) way
+    live_paren z y k = live_bind body calls deep z y Held Held (none_of (goes_on s.Exp 1)) (none_of past) Held (Call (Of s.Exp 1)) closing (live_rule deep room (Of s.Exp 1) refl refl a z y k) (kept_one z y k) way
         (λ x t y k. live_map body calls deep t y Held (none_of past) (none_of past) Held (token close) (λ _. deeper x) (λ x q. q) (λ _ t k. k) ((λ _ _. k), tt))
 
     pub live_wrapped : (z : State) (y : Shape) → Still a z → Live body calls deep z y (none_of past) Held (standing 17 (parenthesized s.Exp))

@@ -14,7 +14,7 @@ use Rattle.c_forms.specs.declared.pieces.Repetition.{Repetition}
 use Rattle.c_forms.specs.declared.pieces.Repetition.TheVariants.{Due, All, Many, Spliced, Ended}
 use Rattle.c_forms.specs.declared.pieces.Piece.{Piece}
 use Rattle.c_forms.specs.declared.pieces.Piece.TheVariants.{Token, One, Group}
-use Rattle.c_forms.specs.Sets.{Classes, has, within, type_word}
+use Rattle.c_forms.specs.Sets.{Classes, has, within, goes_on, type_word}
 use Rattle.c_reader.specs.States.{State, seen, happens}
 use Rattle.c_reader.specs.Tokens.{spot}
 use Rattle.c_reader.specs.Readers.{Reader, Body, Give, Refuse, Look, Next, Pick, Note, Bind, Fits, Call, Loop, Ask, Change}
@@ -30,7 +30,7 @@ use Rattle.c_syntax.specs.Reading.{inside}
 abbrev pub a_word : Shape
 a_word = shape.Word (record { 0 = 0 })
 
--- The phrase that completes a sort; nothing for what may be absent.
+-- The phrase that completes a sort; nothing for what may be absent. A qualifier may stand beside every specifier.
 abbrev pub phrase : Sort → List Shape
 phrase s.Exp = a_word ∷ []
 phrase s.Id = a_word ∷ []
@@ -41,16 +41,23 @@ phrase s.Declarator = a_word ∷ []
 phrase s.Init = a_word ∷ []
 phrase s.InitDeclarator = a_word ∷ []
 phrase s.Enumerator = a_word ∷ []
-phrase s.PlainSpec = shape.Key key.Int ∷ []
-phrase s.Spec = shape.Key key.Int ∷ []
-phrase s.TypeName = shape.Key key.Int ∷ []
-phrase s.Param = shape.Key key.Int ∷ []
+phrase s.PlainSpec = shape.Key key.Const ∷ []
+phrase s.Spec = shape.Key key.Const ∷ []
+phrase s.Qualifier = shape.Key key.Const ∷ []
+phrase s.TypeName = shape.Key key.Const ∷ []
+phrase s.Param = shape.Key key.Const ∷ []
 phrase s.Width = shape.Punct punct.Colon ∷ (a_word ∷ [])
 phrase s.MemberDeclarator = shape.Punct punct.Colon ∷ (a_word ∷ [])
-phrase s.Member = shape.Key key.Int ∷ (shape.Punct punct.Colon ∷ (a_word ∷ (shape.Punct punct.Semicolon ∷ [])))
-phrase s.Members = shape.Punct punct.LeftBrace ∷ (shape.Key key.Int ∷ (shape.Punct punct.Colon ∷ (a_word ∷ (shape.Punct punct.Semicolon ∷ (shape.Punct punct.RightBrace ∷ [])))))
+phrase s.Member = shape.Key key.Const ∷ (shape.Punct punct.Colon ∷ (a_word ∷ (shape.Punct punct.Semicolon ∷ [])))
+phrase s.Members = shape.Punct punct.LeftBrace ∷ (shape.Key key.Const ∷ (shape.Punct punct.Colon ∷ (a_word ∷ (shape.Punct punct.Semicolon ∷ (shape.Punct punct.RightBrace ∷ [])))))
 phrase s.Enumerators = shape.Punct punct.LeftBrace ∷ (a_word ∷ (shape.Punct punct.RightBrace ∷ []))
 phrase s.Stmt = shape.Punct punct.Semicolon ∷ []
+phrase s.BlockItem = shape.Punct punct.Semicolon ∷ []
+phrase s.Decl = shape.Key key.Const ∷ (shape.Punct punct.Semicolon ∷ [])
+phrase s.Literal = shape.Str (record { 0 = 0 }) ∷ []
+phrase s.Initializer = shape.Punct punct.Equal ∷ (a_word ∷ [])
+phrase s.EnumeratorValue = shape.Punct punct.Equal ∷ (a_word ∷ [])
+phrase s.ElsePart = shape.Key key.Else ∷ (shape.Punct punct.Semicolon ∷ [])
 phrase s.Block = shape.Punct punct.LeftBrace ∷ (shape.Punct punct.RightBrace ∷ [])
 phrase _ = []
 
@@ -91,6 +98,13 @@ pieces_phrase own (p ∷ ps) = pieces_phrase own ps
 -- the tokens that are seen as none of a set, whatever the state
 abbrev pub none_of : Classes → Tokens
 none_of set = but (blur set)
+
+-- What may go on with a tree of a sort where it stands: an `else` does with a statement.
+abbrev pub past : Sort → ℕ → Classes
+past s.Stmt least = class_number (class.Key key.Else) ∷ []
+past s.BlockItem least = class_number (class.Key key.Else) ∷ []
+past s.ElsePart least = class_number (class.Key key.Else) ∷ []
+past due least = goes_on due least
 
 -- whether what opens a phrase, or what follows where it is empty, is none of a set
 abbrev pub opens_so : Classes → List Shape → Classes → Bool

@@ -1,5 +1,5 @@
 -- `sizeof` can be completed.
-use Rattle.std.proofs.Common.{◌≡◌, refl, ◌∙◌, ℕ, ◌<◌, ◌-◌, nat_lt, true, false, List, [], ◌∷◌, arith}
+use Rattle.std.proofs.Common.{◌≡◌, refl, ℕ, ◌<◌, ◌-◌, nat_lt, true, false, List, [], ◌∷◌, arith}
 use Rattle.c_tokens.specs.declared.token.Punct.TheVariants as punct
 use Rattle.c_tokens.specs.declared.token.Shape.{Shape}
 use Rattle.c_forms.specs.declared.pieces.Sort.TheVariants as s
@@ -24,7 +24,7 @@ use Rattle.c_alive.proofs.Operands.{operand_lives, operand_finishes, operand_lea
 use Rattle.c_alive.proofs.Climbs.{fin_climb}
 use Rattle.c_alive.proofs.Parens.{and_close, fin_wrapped}
 use Rattle.c_alive.proofs.Entered.{live_tight, fin_tight, live_type_or}
-use Rattle.c_alive.proofs.Called.{calls}
+use Rattle.c_alive.proofs.Called.{calls, live_rule}
 
 module _ (a : List Kept) where
   abbrev Held : {A : Type 0} → A → State → Type 0
@@ -53,7 +53,7 @@ module _ (a : List Kept) where
   fin_sized_opened i z k = fin_last body z Held past_size past_size Held (Call Opened) (from_opened i) (a_word ∷ and_close) (fin_call body z past_size Held Opened (a_word ∷ and_close) (fin_opened z k)) (λ x q. q) (λ x t k. fin_from i x t k)
 
   live_sized_opened : (deep : ℕ) → 0 < deep → (i : ℕ) (z : State) (y : Shape) → Still a z → Live body calls deep z y past_size Held (sized_opened i)
-  live_sized_opened deep room i z y k = live_bind body calls deep z y anyhow Held past_size past_size Held (Call Opened) (from_opened i) ((refl, (refl, k.1)), (room, ((λ x q. q), ((λ x t m. (m.0 ∙ k.0, m.1)), tt)))) (leaves_anyhow body z y (Call Opened))
+  live_sized_opened deep room i z y k = live_bind body calls deep z y anyhow Held past_size past_size Held (Call Opened) (from_opened i) (live_rule deep room Opened refl refl a z y k) (leaves_anyhow body z y (Call Opened))
       (record { tokens = []; opens = λ x q. q; finishes = λ x t k. fin_from i x t k }) (λ x t y _ place. tt)
 
   module _ (least : ℕ) (low : nat_lt 15 least ≡ false) where
