@@ -174,7 +174,7 @@ module _ (B : Rule → Input → Outcome Found) (d : ℕ) where
 
   -- ---- groups
 
-  stays_element : (element : Reader Found) (g : Gathered) → Stays element → Stays (element_after element g)
+  pub stays_element : (element : Reader Found) (g : Gathered) → Stays element → Stays (element_after element g)
   unfolding element_after
   stays_element element g E = stays_bind element (λ x. Ask (λ j. Give (with_last g x j.place))) E (λ x. stays_ask (λ j. Give (with_last g x j.place)) (λ j. stays_give (with_last g x j.place)))
 

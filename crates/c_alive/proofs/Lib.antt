@@ -2,6 +2,8 @@ pub mod Tame
 pub mod Kept
 pub mod Groups
 pub mod Phrased
+pub mod Gathers
+pub mod EndedLists
 pub mod Rows
 pub mod FitRows
 pub mod Climbs

@@ -72,7 +72,7 @@ shape_class_of (class.Key k) = true
 shape_class_of (class.Punct p) = true
 shape_class_of _ = false
 
-abbrev by_least : Bool → List Shape → List Shape
+abbrev pub by_least : Bool → List Shape → List Shape
 by_least true u = u
 by_least false u = []
 

@@ -291,7 +291,7 @@ ends_so r due = not (has (goes_on_with r (element_starts r due)) the_end.class)
 pub bounded_others : (r : Repetition) (due : Sort) (element : Reader Found) → ends_so r due ≡ true → ((g : Gathered) → Firm (separated (separator_of r) (element_after element g))) → Bounded body (turn_while (goes r due) (λ _ g. separated (separator_of r) (element_after element g)))
 bounded_others r due element h F = bounded_while body (goes r due) (λ _ g. separated (separator_of r) (element_after element g)) Taking every (λ x g. F g) (λ g. not_true _ h)
 
-bounded_ended : (separator end_token : Class) (element : Reader Found) → is_class separator the_end ≡ false → Bounded body (ended_turn separator end_token element)
+pub bounded_ended : (separator end_token : Class) (element : Reader Found) → is_class separator the_end ≡ false → Bounded body (ended_turn separator end_token element)
 bounded_ended separator end_token element never = bounded_by (ended_turn separator end_token element) (λ d g i t j e. by_test d g i t j (is_class separator (here i)) refl e)
   where
     After : Gathered → Seen → Reader (Turn Gathered Gathered)
@@ -339,7 +339,7 @@ sound (Spliced (Some c) n) due = ends_so (Spliced (Some c) n) due
 sound (Ended separator end_token) due = not (is_class separator the_end)
 sound _ due = true
 
-abbrev is_loop : Repetition → Bool
+abbrev pub is_loop : Repetition → Bool
 is_loop Optional = false
 is_loop Greedy = false
 is_loop Due = false
