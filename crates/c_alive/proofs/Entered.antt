@@ -20,7 +20,7 @@ use Rattle.c_alive.proofs.Phrased.{none_of, a_word, live_fewer}
 use Rattle.c_alive.proofs.FitRows.{operand, operand_ends, cast_fits}
 use Rattle.c_alive.proofs.Rows.{live_pieces}
 use Rattle.c_alive.proofs.Nodes.{live_completed}
-use Rattle.c_alive.proofs.Operands.{operand_lives, operand_finishes, operand_leaves}
+use Rattle.c_alive.proofs.Operands.{operands_ending, operands_able}
 use Rattle.c_alive.proofs.Parens.{and_close, fin_wrapped, live_wrapped}
 use Rattle.c_alive.proofs.ExpTails.{fewer}
 use Rattle.c_alive.proofs.Called.{calls}
@@ -76,7 +76,7 @@ module _ (least : ℕ) (a : List Kept) where
   live_cast : (deep : ℕ) → 0 < deep → (i : ℕ) (z : State) (y : Shape) → Within true a z → Live body calls deep z y past Held (cast i)
   live_cast deep room i z y w = live_tight deep (form.Exp exp.Cast) (completed called s.Exp (form.Exp exp.Cast) i nothing (after_paren (pieces (form.Exp exp.Cast)))) z y
       (live_completed a (past_form (form.Exp exp.Cast)) called s.Exp (form.Exp exp.Cast) i nothing (after_paren (pieces (form.Exp exp.Cast))) calls deep z y
-      (live_pieces calls deep called s.Exp (form.Exp exp.Cast) operand operand_ends (operand_lives deep room true) (operand_finishes true) (operand_leaves true) (goes_on s.Exp 14) true Usual (after_paren (pieces (form.Exp exp.Cast))) cast_fits a z y w))
+      (live_pieces calls deep called s.Exp (form.Exp exp.Cast) operand operand_ends (operands_ending true) (operands_able deep room true) (goes_on s.Exp 14) true Usual (after_paren (pieces (form.Exp exp.Cast))) cast_fits a z y w))
 
   pub live_entered : (deep i : ℕ) (z : State) (y : Shape) → Still a z → Live body calls deep z y past Held (entered least i)
   live_entered deep i z y k = (

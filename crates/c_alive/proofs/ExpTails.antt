@@ -1,43 +1,30 @@
 -- Expressions can be completed after their first part.
-use Rattle.std.proofs.Common.{◌≡◌, ◌⊎◌, inl, inr, refl, sym, subst, ℕ, suc, ◌<◌, nat_lt, not, Bool, true, false, ◌&&◌, List, Option, Some, None, arith}
+use Rattle.std.proofs.Common.{◌≡◌, refl, ℕ, suc, ◌<◌, nat_lt, not, Bool, true, false, ◌&&◌, List, Option, Some, None, arith}
 use Rattle.std.proofs.lemmas.Bool.{ltb-false}
 use Rattle.c_tokens.specs.declared.token.Punct.{Punct}
-use Rattle.c_tokens.specs.declared.token.Punct.TheVariants as punct
 use Rattle.c_tokens.specs.declared.token.Shape.{Shape}
 use Rattle.c_tokens.specs.declared.token.Shape.TheVariants as shape
-use Rattle.c_tokens.specs.declared.class.Class.TheVariants as class
-use Rattle.c_tokens.specs.ClassNumbers.{class_number}
 use Rattle.c_forms.specs.declared.pieces.Sort.TheVariants as s
 use Rattle.c_forms.specs.declared.forms.Form.{Form}
-use Rattle.c_forms.specs.declared.forms.Form.TheVariants as form
-use Rattle.c_forms.specs.declared.forms.ExpForm.TheVariants as exp
 use Rattle.c_forms.specs.Measures.{level, pieces}
 use Rattle.c_forms.specs.Tokens.{continued}
 use Rattle.c_forms.specs.Sets.{goes_on}
 use Rattle.c_reader.specs.States.{State, Kept, class}
 use Rattle.c_reader.specs.Readers.{Reader}
-use Rattle.c_reader.proofs.Sets.{both, either, not_true, same_class}
+use Rattle.c_reader.proofs.Sets.{both, not_true}
 use Rattle.c_reader.proofs.Phrases.{Begun, begun_fewer}
 use Rattle.c_reader.proofs.Live.{Live, live_map}
 use Rattle.c_syntax.specs.Reading.{Usual, Listed, one, deeper, called, parts_of, is_starred, pieces_in}
 use Rattle.c_syntax.specs.Grammar.{body, Standing, standing, after_first, after_part, continued_by, is_tail, tail_by, left_level, may_follow, climb}
 use Rattle.c_alive.proofs.Kept.{Still}
 use Rattle.c_alive.proofs.Phrased.{none_of, none_within, live_fewer}
-use Rattle.c_alive.proofs.FitRows.{operand, operand_ends, has_list, tail_fits, tail_begins, exp_tail_fits, exp_tail_begins}
+use Rattle.c_alive.proofs.FitRows.{operand, operand_ends, tail_fits, tail_begins, exp_tail_fits, exp_tail_begins}
 use Rattle.c_alive.proofs.Tails.{exp_over, exp_within}
-use Rattle.c_alive.proofs.Rows.{fit_from, live_pieces, begun_pieces, begins_with}
+use Rattle.c_alive.proofs.Rows.{live_pieces, begun_pieces, begins_with}
 use Rattle.c_alive.proofs.Nodes.{live_completed, begun_completed, begun_map}
-use Rattle.c_alive.proofs.Operands.{operand_lives, operand_finishes, operand_leaves}
-use Rattle.c_alive.proofs.Arguments.{a_call, begun_call, live_call}
+use Rattle.c_alive.proofs.Operands.{operands_ending, operands_able}
 use Rattle.c_alive.proofs.Called.{calls}
 use Rattle.c_alive.proofs.Climbs.{live_climb}
-
-is_call : (f : Form) → has_list f ≡ true → f ≡ a_call
-is_call (form.Exp exp.Apply) h = refl
-is_call _ h = absurd (cc h)
-
-abbrev fits_plainly : Form → Bool
-fits_plainly f = fit_from operand operand_ends s.Exp false (after_first (pieces f)) (goes_on s.Exp (level f))
 
 abbrev begins_so : State → Shape → Option Form → Bool
 begins_so z x (Some f) = begins_with f (after_first (pieces f)) (class z x)
@@ -59,21 +46,10 @@ module _ (least i : ℕ) (a : List Kept) where
   pieces_after f = pieces_in (parts_of f called) s.Exp f Usual (after_first (pieces f))
 
   begun_after : (f : Form) (z : State) (x : Shape) → tail_fits (Some f) ≡ true → begins_with f (after_first (pieces f)) (class z x) ≡ true → Still a z → Begun body z x (none_of (goes_on s.Exp (level f))) Held (pieces_after f)
-  begun_after f z x h o k = by_list (either (has_list f) (fits_plainly f) h)
-    where
-      by_list : (has_list f ≡ true) ⊎ (fits_plainly f ≡ true) → Begun body z x (none_of (goes_on s.Exp (level f))) Held (pieces_after f)
-      by_list (inl e) = by_call f (is_call f e) o
-        where
-          by_call : (f : Form) → f ≡ a_call → begins_with f (after_first (pieces f)) (class z x) ≡ true → Begun body z x (none_of (goes_on s.Exp (level f))) Held (pieces_after f)
-          by_call f e = subst (λ f. begins_with f (after_first (pieces f)) (class z x) ≡ true → Begun body z x (none_of (goes_on s.Exp (level f))) Held (pieces_after f)) (sym e) (λ o. begun_call a (goes_on s.Exp 16) z x (same_class (class z x) (class_number (class.Punct punct.LeftParen)) o) k)
-      by_list (inr r) = begun_pieces calls 1 (parts_of f called) s.Exp f operand operand_ends (operand_lives 1 (omega arith) (is_starred f)) (operand_finishes (is_starred f)) (operand_leaves (is_starred f)) (goes_on s.Exp (level f)) false Usual (after_first (pieces f)) r a z x k o
+  begun_after f z x h o k = begun_pieces (parts_of f called) s.Exp f operand operand_ends (operands_ending (is_starred f)) (goes_on s.Exp (level f)) false Usual (after_first (pieces f)) h a z x k o
 
   live_after : (deep : ℕ) → 0 < deep → (f : Form) (z : State) (x : Shape) → tail_fits (Some f) ≡ true → Still a z → Live body calls deep z x (none_of (goes_on s.Exp (level f))) Held (pieces_after f)
-  live_after deep room f z x h k = by_list (either (has_list f) (fits_plainly f) h)
-    where
-      by_list : (has_list f ≡ true) ⊎ (fits_plainly f ≡ true) → Live body calls deep z x (none_of (goes_on s.Exp (level f))) Held (pieces_after f)
-      by_list (inl e) = subst (λ f. Live body calls deep z x (none_of (goes_on s.Exp (level f))) Held (pieces_after f)) (sym (is_call f e)) (live_call a (goes_on s.Exp 16) deep room z x k)
-      by_list (inr r) = live_pieces calls deep (parts_of f called) s.Exp f operand operand_ends (operand_lives deep room (is_starred f)) (operand_finishes (is_starred f)) (operand_leaves (is_starred f)) (goes_on s.Exp (level f)) false Usual (after_first (pieces f)) r a z x k
+  live_after deep room f z x h k = live_pieces calls deep (parts_of f called) s.Exp f operand operand_ends (operands_ending (is_starred f)) (operands_able deep room (is_starred f)) (goes_on s.Exp (level f)) false Usual (after_first (pieces f)) h a z x k
 
   live_tail : (deep : ℕ) (y : Standing) (z : State) (x : Shape) (o : Option Form) → tail_fits o ≡ true → begins_so z x o ≡ true → Still a z → is_tail s.Exp least z y o ≡ true → Live body calls deep z x (none_of (goes_on s.Exp least)) Held (tail_by s.Exp i y o)
   live_tail deep y z x None h o k e = absurd (cc e)

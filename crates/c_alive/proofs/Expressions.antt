@@ -22,7 +22,6 @@ use Rattle.c_alive.proofs.Climbs.{fin_climb}
 use Rattle.c_alive.proofs.ExpTails.{live_climbing}
 use Rattle.c_alive.proofs.Entered.{live_entered}
 use Rattle.c_alive.proofs.Sized.{live_sized}
-use Rattle.c_alive.proofs.Texts.{live_text}
 use Rattle.c_alive.proofs.Prefixes.{live_begun}
 use Rattle.c_alive.proofs.Called.{calls}
 
@@ -41,7 +40,7 @@ module _ (a : List Kept) (n least deep : ℕ) (low : is_reached s.Exp least ≡ 
       (λ _. live_choose body calls deep z y past Held (is_class (class.Key key.Sizeof) (seen z y)) (sized (in_place (suc n)) least place) (choose (begins s.Exp (seen z y)) (begun_by (in_place (suc n)) least (begun s.Exp y)) Refuse)
       (λ _. live_sized a least (not_true (nat_lt 15 least) low) (in_place (suc n)) deep place z y k)
       (λ _. live_choose body calls deep z y past Held (begins s.Exp (seen z y)) (begun_by (in_place (suc n)) least (begun s.Exp y)) Refuse
-      (λ _. live_begun a (suc n) least deep z y (λ z y k. live_text a n deep z y k) k) (λ _. tt)))
+      (λ _. live_begun a n least deep z y k) (λ _. tt)))
 
   pub live_expression : (z : State) (y : Shape) → Still a z → Live body calls deep z y past Held (expression (in_place (suc n)) least)
   unfolding expression

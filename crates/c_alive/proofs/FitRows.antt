@@ -1,5 +1,5 @@
 -- Which rows without groups can be completed piece by piece, computed form by form.
-use Rattle.std.proofs.Common.{◌≡◌, refl, ℕ, nat_lt, not, Bool, true, false, ◌||◌, Option, Some, None}
+use Rattle.std.proofs.Common.{◌≡◌, refl, ℕ, nat_lt, not, Bool, true, false, Option, Some, None}
 use Rattle.c_tokens.specs.declared.token.Punct.{Punct}
 use Rattle.c_tokens.specs.declared.token.Punct.TheVariants as punct
 use Rattle.c_tokens.specs.declared.class.Class.TheVariants as class
@@ -9,9 +9,6 @@ use Rattle.c_forms.specs.declared.pieces.Sort.TheVariants as s
 use Rattle.c_forms.specs.declared.forms.Form.{Form}
 use Rattle.c_forms.specs.declared.forms.Form.TheVariants as form
 use Rattle.c_forms.specs.declared.forms.ExpForm.TheVariants as exp
-use Rattle.c_forms.specs.declared.forms.StmtForm.{StmtForm}
-use Rattle.c_forms.specs.declared.forms.StmtForm.TheVariants as stmt
-use Rattle.c_forms.specs.declared.forms.GroupForm.TheVariants as group
 use Rattle.c_forms.specs.Measures.{level, pieces}
 use Rattle.c_forms.specs.Sets.{goes_on}
 use Rattle.c_forms.specs.Tokens.{continued}
@@ -36,30 +33,9 @@ operand_ends s.Exp least = not (nat_lt 15 least)
 operand_ends s.Id least = true
 operand_ends _ least = false
 
--- the sorts whose parts can be completed wherever they are read
-abbrev pub lively : Sort → ℕ → Bool
-lively s.Exp least = not (nat_lt 15 least)
-lively s.Id least = true
-lively s.TypeName least = true
-lively s.Stmt least = true
-lively s.Init least = true
-lively _ least = false
-
--- and are completed by a phrase of their sort
-abbrev pub finished : Sort → ℕ → Bool
-finished s.Exp least = not (nat_lt 15 least)
-finished s.Id least = true
-finished s.Stmt least = true
-finished s.Init least = true
-finished _ least = false
-
-abbrev pub has_list : Form → Bool
-has_list (form.Exp exp.Apply) = true
-has_list f = false
-
--- what goes on with an expression, but the arguments of a call
+-- what goes on with an expression
 abbrev pub tail_fits : Option Form → Bool
-tail_fits (Some f) = has_list f || fit_from operand operand_ends s.Exp false (after_first (pieces f)) (goes_on s.Exp (level f))
+tail_fits (Some f) = fit_from operand operand_ends s.Exp false (after_first (pieces f)) (goes_on s.Exp (level f))
 tail_fits None = true
 
 pub exp_tail_fits : (p : Punct) → tail_fits (continued s.Exp p) ≡ true
@@ -81,24 +57,3 @@ cast_fits = refl
 
 pub sizeof_type_fits : fit_from operand operand_ends s.Exp true (after_paren (pieces (form.Exp exp.SizeofType))) (goes_on s.Exp 15) ≡ true
 sizeof_type_fits = refl
-
--- statements, but those with groups
-abbrev has_group : StmtForm → Bool
-has_group stmt.Block = true
-has_group stmt.If = true
-has_group stmt.For = true
-has_group stmt.Return = true
-has_group f = false
-
-pub stmt_fits : (f : StmtForm) → (has_group f || fit_from lively finished s.Stmt false (pieces (form.Stmt f)) (goes_on s.Stmt 0)) ≡ true
-stmt_fits stmt.Label = refl
-stmt_fits _ = refl
-
-pub width_fits : fit_from lively finished s.Width false (pieces (form.Group group.Width)) (goes_on s.Width 0) ≡ true
-width_fits = refl
-
-pub value_fits : fit_from lively finished s.EnumeratorValue false (pieces (form.Group group.EnumeratorValue)) (goes_on s.EnumeratorValue 0) ≡ true
-value_fits = refl
-
-pub initializer_fits : fit_from lively finished s.Initializer false (pieces (form.Group group.Initializer)) (goes_on s.Initializer 0) ≡ true
-initializer_fits = refl

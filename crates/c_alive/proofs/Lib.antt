@@ -12,13 +12,10 @@ pub mod Words
 pub mod Called
 pub mod Nodes
 pub mod Operands
-pub mod Arguments
 pub mod ExpTails
 pub mod Parens
 pub mod Entered
 pub mod Sized
 pub mod Prefixes
-pub mod Texts
 pub mod Expressions
 pub mod Names
-pub mod Values

@@ -16,7 +16,9 @@ use Rattle.c_reader.proofs.Live.{Live}
 use Rattle.c_syntax.specs.Reading.{nothing, node, called, deeper, parts_by}
 use Rattle.c_syntax.specs.Grammar.{body, identifier, in_place, leaf_if, is_word}
 use Rattle.c_alive.proofs.Kept.{Still, KeptBy, is_item, kept_call}
-use Rattle.c_alive.proofs.Phrased.{none_of, phrase, a_word}
+use Rattle.c_alive.proofs.Phrased.{none_of, past, phrase, a_word}
+use Rattle.c_alive.proofs.Rows.{Ending, Able}
+use Rattle.c_alive.proofs.Tame.{firm_called}
 use Rattle.c_alive.proofs.FitRows.{is_reached, operand, operand_ends}
 use Rattle.c_alive.proofs.Words.{fin_expression}
 use Rattle.c_alive.proofs.Called.{calls, live_called, fin_called}
@@ -49,26 +51,28 @@ in_body s.Exp least h a z k = fin_expression (in_place 8) least (below_words lea
 in_body s.Id least h a z k = fin_identifier a z (none_of (goes_on s.Id least)) k
 in_body _ least h a z k = absurd (cc h)
 
-module _ (deep : ℕ) (room : 0 < deep) where
-  operand_lives_at : (due : Sort) (least : ℕ) → operand due least ≡ true → (a : List Kept) (z : State) (y : Shape) → Still a z → Live body calls deep z y (none_of (goes_on due least)) (λ _ t. Still a t) (called due least)
-  operand_lives_at s.Exp least h a z y k = live_called deep room s.Exp least refl h a z y k
-  operand_lives_at s.Id least h a z y k = live_called deep room s.Id least refl refl a z y k
-  operand_lives_at s.TypeName least h a z y k = live_called deep room s.TypeName least refl refl a z y k
-  operand_lives_at _ least h a z y k = absurd (cc h)
+operand_lives : (deep : ℕ) → 0 < deep → (due : Sort) (least : ℕ) → operand due least ≡ true → (a : List Kept) (z : State) (y : Shape) → Still a z → Live body calls deep z y (none_of (past due least)) (λ _ t. Still a t) (called due least)
+operand_lives deep room s.Exp least h a z y k = live_called deep room s.Exp least refl h a z y k
+operand_lives deep room s.Id least h a z y k = live_called deep room s.Id least refl refl a z y k
+operand_lives deep room s.TypeName least h a z y k = live_called deep room s.TypeName least refl refl a z y k
+operand_lives deep room _ least h a z y k = absurd (cc h)
 
-  pub operand_lives : (b : Bool) (due : Sort) (least : ℕ) → operand due least ≡ true → (a : List Kept) (z : State) (y : Shape) → Still a z → Live body calls deep z y (none_of (goes_on due least)) (λ _ t. Still a t) (parts_by b called due least)
-  operand_lives true due least h a z y k = operand_lives_at due least h a z y k
-  operand_lives false due least h a z y k = operand_lives_at due least h a z y k
+operand_finishes : (due : Sort) (least : ℕ) → operand_ends due least ≡ true → (a : List Kept) (z : State) → Still a z → Finishes body z (none_of (past due least)) (λ _ t. Still a t) (called due least) (phrase due)
+operand_finishes s.Exp least h a z k = fin_called s.Exp least a z (in_body s.Exp least h a z k)
+operand_finishes s.Id least h a z k = fin_called s.Id least a z (in_body s.Id least h a z k)
+operand_finishes _ least h a z k = absurd (cc h)
 
-operand_finishes_at : (due : Sort) (least : ℕ) → operand_ends due least ≡ true → (a : List Kept) (z : State) → Still a z → Finishes body z (none_of (goes_on due least)) (λ _ t. Still a t) (called due least) (phrase due)
-operand_finishes_at s.Exp least h a z k = fin_called s.Exp least a z (in_body s.Exp least h a z k)
-operand_finishes_at s.Id least h a z k = fin_called s.Id least a z (in_body s.Id least h a z k)
-operand_finishes_at _ least h a z k = absurd (cc h)
+-- where they are called
+operands_end : Ending called operand_ends
+operands_end = record { firm = firm_called; ends = operand_finishes }
 
-pub operand_finishes : (b : Bool) (due : Sort) (least : ℕ) → operand_ends due least ≡ true → (a : List Kept) (z : State) → Still a z → Finishes body z (none_of (goes_on due least)) (λ _ t. Still a t) (parts_by b called due least) (phrase due)
-operand_finishes true due least h a z k = operand_finishes_at due least h a z k
-operand_finishes false due least h a z k = operand_finishes_at due least h a z k
+operands_live : (deep : ℕ) → 0 < deep → Able calls deep called operand
+operands_live deep room = record { lives = operand_lives deep room; leaves = λ due least h a z y k. kept_called due least (operand_item due least h).0 a z y k }
 
-pub operand_leaves : (b : Bool) (due : Sort) (least : ℕ) → operand due least ≡ true → (a : List Kept) (z : State) (y : Shape) → Still a z → Leaves body z y (parts_by b called due least) (λ _ t. Still a t)
-operand_leaves true due least h a z y k = kept_called due least (operand_item due least h).0 a z y k
-operand_leaves false due least h a z y k = kept_called due least (operand_item due least h).0 a z y k
+pub operands_ending : (b : Bool) → Ending (parts_by b called) operand_ends
+operands_ending true = operands_end
+operands_ending false = operands_end
+
+pub operands_able : (deep : ℕ) → 0 < deep → (b : Bool) → Able calls deep (parts_by b called) operand
+operands_able deep room true = operands_live deep room
+operands_able deep room false = operands_live deep room

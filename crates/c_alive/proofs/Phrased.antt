@@ -15,9 +15,9 @@ use Rattle.c_forms.specs.declared.pieces.Repetition.TheVariants.{Due, All, Many,
 use Rattle.c_forms.specs.declared.pieces.Piece.{Piece}
 use Rattle.c_forms.specs.declared.pieces.Piece.TheVariants.{Token, One, Group}
 use Rattle.c_forms.specs.Sets.{Classes, has, within, goes_on, type_word}
-use Rattle.c_reader.specs.States.{State, seen, happens}
+use Rattle.c_reader.specs.States.{State, seen, happens, noted}
 use Rattle.c_reader.specs.Tokens.{spot}
-use Rattle.c_reader.specs.Readers.{Reader, Body, Give, Refuse, Look, Next, Pick, Note, Bind, Fits, Call, Loop, Ask, Change}
+use Rattle.c_reader.specs.Readers.{Reader, Turn, More, Last, Body, Give, Refuse, Look, Next, Pick, Note, Bind, Fits, Call, Loop, Ask, Change}
 use Rattle.c_reader.proofs.Sets.{not_true, within_lacks}
 use Rattle.c_reader.proofs.Seen.{word, written, blur}
 use Rattle.c_reader.proofs.Leaves.{Turned}
@@ -126,15 +126,15 @@ pub opens_if : (set : Classes) (u : List Shape) (past : Classes) → opens_so se
 opens_if set [] past h = λ x q. none_within set past x h q
 opens_if set (x ∷ u) past h = opens_but (blur set) x u (none_of past) (not_true (blur set (written x)) h)
 
--- what is live where more tokens may follow is live where fewer may
-pub live_fewer : {A : Type 0} (body : Body) (calls : Calls) (deep : ℕ) (z : State) (y : Shape) (P Q : Tokens) (J : A → State → Type 0) (r : Reader A) → ((x : Shape) → Q x ≡ true → P x ≡ true) → Live body calls deep z y P J r → Live body calls deep z y Q J r
-live_fewer body calls deep z y P Q J (Give a) up L = tt
-live_fewer body calls deep z y P Q J Refuse up L = tt
-live_fewer body calls deep z y P Q J (Look f) up L = live_fewer body calls deep z y P Q J (f (seen z y)) up L
-live_fewer body calls deep z y P Q J (Next r) up L = (record { tokens = L.0.tokens; finishes = fin_fewer body z P Q J J r L.0.tokens up (λ a t k. k) L.0.finishes }, λ x. live_fewer body calls deep z x P Q J r up (L.1 x))
-live_fewer body calls deep z y P Q J (Pick f) up L = L
-live_fewer body calls deep z y P Q J (Note f) up L = L
-live_fewer body calls deep z y P Q J (Bind r f) up L = (
+-- what is live where more tokens may follow, and more holds, is live where fewer may and less does
+pub live_weaker : {A : Type 0} (body : Body) (calls : Calls) (deep : ℕ) (z : State) (y : Shape) (P Q : Tokens) (K J : A → State → Type 0) (r : Reader A) → ((x : Shape) → Q x ≡ true → P x ≡ true) → ((a : A) (t : State) → K a t → J a t) → Live body calls deep z y P K r → Live body calls deep z y Q J r
+live_weaker body calls deep z y P Q K J (Give a) up so L = tt
+live_weaker body calls deep z y P Q K J Refuse up so L = tt
+live_weaker body calls deep z y P Q K J (Look f) up so L = live_weaker body calls deep z y P Q K J (f (seen z y)) up so L
+live_weaker body calls deep z y P Q K J (Next r) up so L = (record { tokens = L.0.tokens; finishes = fin_fewer body z P Q K J r L.0.tokens up so L.0.finishes }, λ x. live_weaker body calls deep z x P Q K J r up so (L.1 x))
+live_weaker body calls deep z y P Q K J (Pick f) up so L = ((λ a e. so a z (L.0 a e)), tt)
+live_weaker body calls deep z y P Q K J (Note f) up so L = ((λ a e. so a (noted y z) (L.0 a e)), tt)
+live_weaker body calls deep z y P Q K J (Bind r f) up so L = (
   L.0,
   (
     L.1.0,
@@ -145,8 +145,8 @@ live_fewer body calls deep z y P Q J (Bind r f) up L = (
         (
           L.1.1.1.1.0,
           (
-            record { tokens = L.1.1.1.1.1.0.tokens; opens = fewer_opens L.0 P Q L.1.1.1.1.1.0.tokens up L.1.1.1.1.1.0.opens; finishes = λ b t k. fin_fewer body t P Q J J (f b) L.1.1.1.1.1.0.tokens up (λ a t k. k) (L.1.1.1.1.1.0.finishes b t k) },
-            λ b t x k. live_fewer body calls deep t x P Q J (f b) up (L.1.1.1.1.1.1 b t x k),
+            record { tokens = L.1.1.1.1.1.0.tokens; opens = fewer_opens L.0 P Q L.1.1.1.1.1.0.tokens up L.1.1.1.1.1.0.opens; finishes = λ b t k. fin_fewer body t P Q K J (f b) L.1.1.1.1.1.0.tokens up so (L.1.1.1.1.1.0.finishes b t k) },
+            λ b t x k. live_weaker body calls deep t x P Q K J (f b) up so (L.1.1.1.1.1.1 b t x k),
           ),
         ),
       ),
@@ -157,11 +157,27 @@ live_fewer body calls deep z y P Q J (Bind r f) up L = (
     fewer_opens : (O P Q : Tokens) (u : List Shape) → ((x : Shape) → Q x ≡ true → P x ≡ true) → Opens O u P → Opens O u Q
     fewer_opens O P Q [] up o = λ x q. o x (up x q)
     fewer_opens O P Q (x ∷ u) up o = o
-live_fewer body calls deep z y P Q J (Fits h r) up L = (begun_fewer body z y P Q J J r up (λ a t k. k) L.0, live_fewer body calls (suc h) z y P Q J r up L.1)
-live_fewer body calls deep z y P Q J (Call n) up L = (L.0, (L.1.0, ((λ x q. L.1.1.0 x (up x q)), L.1.1.1)))
-live_fewer body calls deep z y P Q J (Loop f t) up L = (L.0, (L.1.0, (L.1.1.0, ((λ t z x k. live_fewer body calls deep z x P Q (Turned L.1.0 J) (f t) up (L.1.1.1.0 t z x k)), (L.1.1.1.1.0, λ t z k. fin_fewer body z P Q J J (Loop f t) [] up (λ a t k. k) (L.1.1.1.1.1 t z k))))))
-live_fewer body calls deep z y P Q J (Ask f) up L = λ place. live_fewer body calls deep z y P Q J (f (spot place z)) up (L place)
-live_fewer body calls deep z y P Q J (Change e r) up L = live_fewer body calls deep (happens e z) y P Q J r up L
+live_weaker body calls deep z y P Q K J (Fits h r) up so L = (begun_fewer body z y P Q K J r up so L.0, live_weaker body calls (suc h) z y P Q K J r up so L.1)
+live_weaker body calls deep z y P Q K J (Call n) up so L = (L.0, (L.1.0, ((λ x q. L.1.1.0 x (up x q)), ((λ a t m. so a t (L.1.1.1.0 a t m)), tt))))
+live_weaker {A = A} body calls deep z y P Q K J (Loop {S = S} f t) up so L = (
+  L.0,
+  (
+    L.1.0,
+    (
+      L.1.1.0,
+      ((λ t z x k. live_weaker body calls deep z x P Q (Turned L.1.0 K) (Turned L.1.0 J) (f t) up turned (L.1.1.1.0 t z x k)), (L.1.1.1.1.0, λ t z k. fin_fewer body z P Q K J (Loop f t) [] up so (L.1.1.1.1.1 t z k))),
+    ),
+  ),
+)
+  where
+    turned : (r : Turn S A) (t : State) → Turned L.1.0 K r t → Turned L.1.0 J r t
+    turned (More u) t k = k
+    turned (Last x) t k = so x t k
+live_weaker body calls deep z y P Q K J (Ask f) up so L = λ place. live_weaker body calls deep z y P Q K J (f (spot place z)) up so (L place)
+live_weaker body calls deep z y P Q K J (Change e r) up so L = live_weaker body calls deep (happens e z) y P Q K J r up so L
+
+pub live_fewer : {A : Type 0} (body : Body) (calls : Calls) (deep : ℕ) (z : State) (y : Shape) (P Q : Tokens) (J : A → State → Type 0) (r : Reader A) → ((x : Shape) → Q x ≡ true → P x ≡ true) → Live body calls deep z y P J r → Live body calls deep z y Q J r
+live_fewer body calls deep z y P Q J r up L = live_weaker body calls deep z y P Q J J r up (λ a t k. k) L
 
 -- a token of a row is written as its class
 pub token_written : (c : Class) → shape_class_of c ≡ true → written (shape_of c) ≡ class_number c

@@ -20,7 +20,7 @@ use Rattle.c_alive.proofs.FitRows.{operand, operand_ends, sizeof_type_fits}
 use Rattle.c_alive.proofs.Tails.{exp_over}
 use Rattle.c_alive.proofs.Rows.{fin_pieces, live_pieces}
 use Rattle.c_alive.proofs.Nodes.{live_completed, fin_completed}
-use Rattle.c_alive.proofs.Operands.{operand_lives, operand_finishes, operand_leaves}
+use Rattle.c_alive.proofs.Operands.{operands_ending, operands_able}
 use Rattle.c_alive.proofs.Climbs.{fin_climb}
 use Rattle.c_alive.proofs.Parens.{and_close, fin_wrapped}
 use Rattle.c_alive.proofs.Entered.{live_tight, fin_tight, live_type_or}
@@ -68,15 +68,15 @@ module _ (a : List Kept) where
 
     fin_plainly : (i : ℕ) (z : State) → Still a z → Finishes body z past Held (tight least (form.Exp exp.SizeofExp) (plainly i)) (a_word ∷ [])
     fin_plainly i z k = fin_tight least a (form.Exp exp.SizeofExp) (plainly i) z (a_word ∷ []) low (fin_completed a past_size called s.Exp (form.Exp exp.SizeofExp) i nothing (after_first (pieces (form.Exp exp.SizeofExp))) z (a_word ∷ [])
-        (fin_pieces calls 1 called s.Exp (form.Exp exp.SizeofExp) operand operand_ends (operand_lives 1 (omega arith) true) (operand_finishes true) (operand_leaves true) (goes_on s.Exp 15) false Usual (after_first (pieces (form.Exp exp.SizeofExp))) refl a z k))
+        (fin_pieces called s.Exp (form.Exp exp.SizeofExp) operand_ends (operands_ending true) (goes_on s.Exp 15) false Usual (after_first (pieces (form.Exp exp.SizeofExp))) refl a z k))
 
     live_plainly : (deep : ℕ) → 0 < deep → (i : ℕ) (z : State) (y : Shape) → Still a z → Live body calls deep z y past Held (tight least (form.Exp exp.SizeofExp) (plainly i))
     live_plainly deep room i z y k = live_tight least a deep (form.Exp exp.SizeofExp) (plainly i) z y (live_completed a past_size called s.Exp (form.Exp exp.SizeofExp) i nothing (after_first (pieces (form.Exp exp.SizeofExp))) calls deep z y
-        (live_pieces calls deep called s.Exp (form.Exp exp.SizeofExp) operand operand_ends (operand_lives deep room true) (operand_finishes true) (operand_leaves true) (goes_on s.Exp 15) false Usual (after_first (pieces (form.Exp exp.SizeofExp))) refl a z y k))
+        (live_pieces calls deep called s.Exp (form.Exp exp.SizeofExp) operand operand_ends (operands_ending true) (operands_able deep room true) (goes_on s.Exp 15) false Usual (after_first (pieces (form.Exp exp.SizeofExp))) refl a z y k))
 
     live_of_type : (deep : ℕ) → 0 < deep → (i : ℕ) (z : State) (y : Shape) → Within true a z → Live body calls deep z y past Held (tight least (form.Exp exp.SizeofType) (of_type i))
     live_of_type deep room i z y w = live_tight least a deep (form.Exp exp.SizeofType) (of_type i) z y (live_completed a past_size called s.Exp (form.Exp exp.SizeofType) i nothing (after_paren (pieces (form.Exp exp.SizeofType))) calls deep z y
-        (live_pieces calls deep called s.Exp (form.Exp exp.SizeofType) operand operand_ends (operand_lives deep room true) (operand_finishes true) (operand_leaves true) (goes_on s.Exp 15) true Usual (after_paren (pieces (form.Exp exp.SizeofType))) sizeof_type_fits a z y w))
+        (live_pieces calls deep called s.Exp (form.Exp exp.SizeofType) operand operand_ends (operands_ending true) (operands_able deep room true) (goes_on s.Exp 15) true Usual (after_paren (pieces (form.Exp exp.SizeofType))) sizeof_type_fits a z y w))
 
     abbrev in_parens : ℕ → Reader Standing
     in_parens i = type_or (tight least (form.Exp exp.SizeofType) (of_type i)) (tight least (form.Exp exp.SizeofExp) (sized_opened i))
