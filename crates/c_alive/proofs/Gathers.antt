@@ -93,6 +93,36 @@ module _ (due : Sort) (least : ℕ) where
 
 -- ---- what completes a repetition
 
+-- whether it needs an element
+abbrev pub needs : Repetition → Bool
+needs Optional = false
+needs Greedy = false
+needs Any = false
+needs (Many c n) = nat_eq n 1
+needs (Spliced c n) = nat_eq n 1
+needs r = true
+
+module _ (a : List Kept) (due : Sort) (least : ℕ) (element : Reader Found) where
+  abbrev Held_on : {A : Type 0} → A → State → Type 0
+  Held_on x t = Still a t
+
+  abbrev next : Repetition → Tokens
+  next r = after_them due least r
+
+  -- none, where none begins
+  fin_no_number : (b : Bool) (r : Repetition) → b ≡ false → ((z : State) (x : Shape) → next r x ≡ true → has (element_starts r due) (class z x) ≡ false) → (i : ℕ) (z : State) → Still a z → Finishes body z (next r) Held_on (any_number b r due element i) (by_least b (phrase due))
+  fin_no_number true r l clear i z k = absurd (cc l)
+  fin_no_number false r l clear i z k = fin_look_past body z (next r) Held_on (λ x. choose (has (element_starts r due) x.class) (many r due element i) (Give (none_at i)))
+      (λ x q. fin_choose body z (next r) Held_on (has (element_starts r due) (class z x)) (many r due element i) (Give (none_at i)) [] (λ e. contrary (has (element_starts r due) (class z x)) e (clear z x q)) (λ _. fin_give body z (next r) Held_on (none_at i) k))
+
+  fin_none_by : (r : Repetition) (before : Before) → needs r ≡ false → (i : ℕ) (z : State) → Still a z → Finishes body z (next r) Held_on (gathered_by r due element before i) (group_phrase r due)
+  fin_none_by Optional before l i z k = fin_at_most a (next Optional) element z (starts due) i (none due least Optional z) k
+  fin_none_by Greedy before l i z k = fin_at_most a (next Greedy) element z (starts due) i (none due least Greedy z) k
+  fin_none_by Any before l i z k = fin_no_number false Any refl (none due least Any) i z k
+  fin_none_by (Many c n) before l i z k = fin_no_number (nat_eq n 1) (Many c n) l (none due least (Many c n)) i z k
+  fin_none_by (Spliced c n) before l i z k = fin_no_number (nat_eq n 1) (Spliced c n) l (none due least (Spliced c n)) i z k
+  fin_none_by _ before l i z k = absurd (cc l)
+
 module _ (a : List Kept) (due : Sort) (least : ℕ) (element : Reader Found) (firm : takes due ≡ true → Firm element)
     (ends : (z : State) → Still a z → Finishes body z (none_of (past due least)) (λ _ t. Still a t) element (phrase due)) where
   abbrev Held : {A : Type 0} → A → State → Type 0
@@ -121,27 +151,18 @@ module _ (a : List Kept) (due : Sort) (least : ℕ) (element : Reader Found) (fi
   fin_one r i z k (x ∷ u) o F = fin_look body z (there r) Held (λ x. choose (has (starts due) x.class) (element_after element (none_at i)) (Give (none_at i))) x u
       (λ n. fin_choose body z (there r) Held (has (starts due) (written x)) (element_after element (none_at i)) (Give (none_at i)) (x ∷ u) (λ _. F) (λ e. contrary (has (starts due) (written x)) o e))
 
-  fin_number : (b : Bool) (r : Repetition) → is_loop r ≡ true → sound r due ≡ true → ((z : State) (x : Shape) → there r x ≡ true → has (element_starts r due) (class z x) ≡ false) → (i : ℕ) (z : State) → Still a z
-      → Finishes body z (there r) Held (any_number b r due element i) (by_least b (phrase due))
-  fin_number true r l h clear i z k = fin_many r l h i z k
-  fin_number false r l h clear i z k = fin_look_past body z (there r) Held (λ x. choose (has (element_starts r due) x.class) (many r due element i) (Give (none_at i)))
-      (λ x q. fin_choose body z (there r) Held (has (element_starts r due) (class z x)) (many r due element i) (Give (none_at i)) [] (λ e. contrary (has (element_starts r due) (class z x)) e (clear z x q)) (λ _. fin_give body z (there r) Held (none_at i) k))
+  fin_number : (b : Bool) (r : Repetition) → is_loop r ≡ true → b ≡ true → sound r due ≡ true → (i : ℕ) (z : State) → Still a z → Finishes body z (there r) Held (any_number b r due element i) (by_least b (phrase due))
+  fin_number true r l m h i z k = fin_many r l h i z k
+  fin_number false r l m h i z k = absurd (cc m)
 
-  fin_by : (r : Repetition) (before : Before) → is_plain r ≡ true → sound r due ≡ true → group_ends r due ≡ true → (i : ℕ) (z : State) → Still a z → Finishes body z (there r) Held (gathered_by r due element before i) (group_phrase r due)
-  fin_by Optional before p h o i z k = fin_at_most a (there Optional) element (phrase due) (ends_there Optional) z (starts due) i (none due least Optional z) k
-  fin_by Greedy before p h o i z k = fin_at_most a (there Greedy) element (phrase due) (ends_there Greedy) z (starts due) i (none due least Greedy z) k
-  fin_by Due before p h o i z k = fin_choose body z (there Due) Held (is_missing before) (element_after element (none_at i)) (at_most_one element (starts due) i) (phrase due)
+  fin_by : (r : Repetition) (before : Before) → needs r ≡ true → is_plain r ≡ true → sound r due ≡ true → group_ends r due ≡ true → (i : ℕ) (z : State) → Still a z → Finishes body z (there r) Held (gathered_by r due element before i) (group_phrase r due)
+  fin_by Due before l p h o i z k = fin_choose body z (there Due) Held (is_missing before) (element_after element (none_at i)) (at_most_one element (starts due) i) (phrase due)
       (λ _. fin_element a (there Due) element (phrase due) (ends_there Due) z (none_at i) k) (λ _. fin_one Due i z k (phrase due) o (fin_element a (there Due) element (phrase due) (ends_there Due) z (none_at i) k))
-  fin_by All before p h o i z k = fin_many All refl h i z k
-  fin_by Any before p h o i z k = fin_number false Any refl h (none due least Any) i z k
-  fin_by (Many c n) before p h o i z k = fin_number (nat_eq n 1) (Many c n) refl h (none due least (Many c n)) i z k
-  fin_by (Spliced c n) before p h o i z k = fin_number (nat_eq n 1) (Spliced c n) refl h (none due least (Spliced c n)) i z k
-  fin_by (Ended c d) before p h o i z k = absurd (cc p)
-
-  pub fin_gathered : (r : Repetition) (before : Before) → is_plain r ≡ true → sound r due ≡ true → group_ends r due ≡ true → (z : State) → Still a z → Finishes body z (there r) Held (gathered r due element before) (group_phrase r due)
-  unfolding gathered
-  fin_gathered r before p h o z k = fin_ask body z (there r) Held (λ i. Bind (gathered_by r due element before i.place) (λ g. Give (i.place, g))) (group_phrase r due)
-      (λ place. fin_map body z Held (there r) Held (gathered_by r due element before place) (λ g. (place, g)) (group_phrase r due) (fin_by r before p h o place z k) (λ g t k. k))
+  fin_by All before l p h o i z k = fin_many All refl h i z k
+  fin_by (Many c n) before l p h o i z k = fin_number (nat_eq n 1) (Many c n) refl l h i z k
+  fin_by (Spliced c n) before l p h o i z k = fin_number (nat_eq n 1) (Spliced c n) refl l h i z k
+  fin_by (Ended c d) before l p h o i z k = absurd (cc p)
+  fin_by _ before l p h o i z k = absurd (cc l)
 
   -- ---- and each prefix of it
 
@@ -189,3 +210,14 @@ module _ (a : List Kept) (due : Sort) (least : ℕ) (element : Reader Found) (fi
     pub live_gathered : (r : Repetition) (before : Before) → is_plain r ≡ true → sound r due ≡ true → (z : State) (y : Shape) → Still a z → Live body calls deep z y (there r) Held (gathered r due element before)
     unfolding gathered
     live_gathered r before p h z y k = λ place. live_map body calls deep z y Held (there r) (there r) Held (gathered_by r due element before place) (λ g. (place, g)) (λ x q. q) (λ g t k. k) (live_by r before p h place z y k)
+
+-- by its phrase, for which an element may be needed
+pub fin_gathered : (a : List Kept) (due : Sort) (least : ℕ) (element : Reader Found) → (takes due ≡ true → Firm element) → (r : Repetition) (before : Before) → (needs r ≡ true → (z : State) → Still a z → Finishes body z (none_of (past due least)) (λ _ t. Still a t) element (phrase due))
+    → is_plain r ≡ true → sound r due ≡ true → group_ends r due ≡ true → (z : State) → Still a z → Finishes body z (none_of (group_past r due least)) (λ _ t. Still a t) (gathered r due element before) (group_phrase r due)
+unfolding gathered
+fin_gathered a due least element firm r before ends p h o z k = fin_ask body z (after_them due least r) (λ _ t. Still a t) (λ i. Bind (gathered_by r due element before i.place) (λ g. Give (i.place, g))) (group_phrase r due)
+    (λ place. fin_map body z (λ _ t. Still a t) (after_them due least r) (λ _ t. Still a t) (gathered_by r due element before place) (λ g. (place, g)) (group_phrase r due) (by_need (needs r) refl place) (λ g t k. k))
+  where
+    by_need : (b : Bool) → needs r ≡ b → (place : ℕ) → Finishes body z (after_them due least r) (λ _ t. Still a t) (gathered_by r due element before place) (group_phrase r due)
+    by_need true e place = fin_by a due least element firm (ends e) r before e p h o place z k
+    by_need false e place = fin_none_by a due least element r before e place z k

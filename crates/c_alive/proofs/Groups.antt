@@ -15,6 +15,11 @@ use Rattle.c_syntax.specs.Reading.{Gathered, none_at, with_last, separated, sepa
 use Rattle.c_syntax.specs.Grammar.{body}
 use Rattle.c_alive.proofs.Kept.{Still}
 
+-- no element, where none begins
+pub fin_at_most : (a : List Kept) (Q : Tokens) (element : Reader Found) (z : State) (begin : Classes) (i : ℕ) → ((x : Shape) → Q x ≡ true → has begin (class z x) ≡ false) → Still a z → Finishes body z Q (λ _ t. Still a t) (at_most_one element begin i) []
+fin_at_most a Q element z begin i none k = fin_look_past body z Q (λ _ t. Still a t) (λ x. choose (has begin x.class) (element_after element (none_at i)) (Give (none_at i)))
+    (λ x q. fin_choose body z Q (λ _ t. Still a t) (has begin (class z x)) (element_after element (none_at i)) (Give (none_at i)) [] (λ e. absurd (let f : true ≡ false = sym e ∙ none x q in cc f)) (λ e. fin_give body z Q (λ _ t. Still a t) (none_at i) k))
+
 -- An element that its phrase completes where a token of Q follows.
 module _ (a : List Kept) (Q : Tokens) (element : Reader Found) (u : List Shape) (ends : (z : State) → Still a z → Finishes body z Q (λ _ t. Still a t) element u) where
   abbrev Held : {A : Type 0} → A → State → Type 0
@@ -39,11 +44,6 @@ module _ (a : List Kept) (Q : Tokens) (element : Reader Found) (u : List Shape) 
     -- one element, and no others
     pub fin_some : (z : State) (i : ℕ) → Still a z → Finishes body z Q Held (Bind (element_after element (none_at i)) (λ g. others r due element g)) u
     fin_some z i k = fin_last body z Held Q Q Held (element_after element (none_at i)) (λ g. others r due element g) u (fin_element z (none_at i) k) (λ x q. q) (λ g t k. fin_others t g k)
-
-  -- none, where none begins
-  pub fin_at_most : (z : State) (begin : Classes) (i : ℕ) → ((x : Shape) → Q x ≡ true → has begin (class z x) ≡ false) → Still a z → Finishes body z Q Held (at_most_one element begin i) []
-  fin_at_most z begin i none k = fin_look_past body z Q Held (λ x. choose (has begin x.class) (element_after element (none_at i)) (Give (none_at i)))
-      (λ x q. fin_choose body z Q Held (has begin (class z x)) (element_after element (none_at i)) (Give (none_at i)) [] (λ e. absurd (let f : true ≡ false = sym e ∙ none x q in cc f)) (λ e. fin_give body z Q Held (none_at i) k))
 
 -- And each of whose prefixes can be completed.
 module _ (calls : Calls) (deep : ℕ) (a : List Kept) (Q : Tokens) (element : Reader Found) (u : List Shape)

@@ -1,5 +1,5 @@
 -- The pieces of a row can be completed, one after the other.
-use Rattle.std.proofs.Common.{◌≡◌, refl, ap, ℕ, not, Bool, true, false, ◌&&◌, nat_eq, List, [], ◌∷◌, Option, Some}
+use Rattle.std.proofs.Common.{◌≡◌, refl, ap, ℕ, not, Bool, true, false, ◌&&◌, ◌||◌, nat_eq, List, [], ◌∷◌, Option, Some}
 use Rattle.c_tokens.specs.declared.token.Shape.{Shape}
 use Rattle.c_tokens.specs.ClassNumbers.{class_number}
 use Rattle.c_forms.specs.declared.pieces.Event.{Event}
@@ -24,7 +24,7 @@ use Rattle.c_syntax.specs.Grammar.{body}
 use Rattle.c_alive.proofs.Tame.{Firmly, sound}
 use Rattle.c_alive.proofs.Kept.{Still, Within, allowed, pending, event_within, stays_gathered}
 use Rattle.c_alive.proofs.Phrased.{phrase, pieces_phrase, group_phrase, shape_of, shape_class_of, token_written, none_of, past, opens_so, opens_if, live_weaker}
-use Rattle.c_alive.proofs.Gathers.{group_past, group_ends, is_plain, opens_not, fin_gathered, live_gathered}
+use Rattle.c_alive.proofs.Gathers.{group_past, group_ends, needs, is_plain, opens_not, fin_gathered, live_gathered}
 use Rattle.c_alive.proofs.EndedLists.{fin_listed, live_listed}
 
 -- an event that is refused in no state where no function's declarator is due
@@ -37,7 +37,11 @@ Known = Sort → ℕ → Bool
 
 -- whether the phrase of a repetition completes it
 abbrev group_done : Known → Repetition → Sort → ℕ → Bool
-group_done done r due least = done due least && (group_ends r due && sound r due)
+group_done done r due least = (not (needs r) || done due least) && (group_ends r due && sound r due)
+
+if_needed : (b c : Bool) → (not b || c) ≡ true → b ≡ true → c ≡ true
+if_needed true c h e = h
+if_needed false c h e = absurd (cc e)
 
 -- Whether pieces without a token that the form holds can be completed by their phrase, where no token of `out` follows.
 -- `done` says which sorts are completed by theirs.
@@ -59,8 +63,8 @@ fit_from live done own b (Own ∷ ps) out = fit done own b ps out && fit_from li
 fit_from live done own b (Maybe c ∷ ps) out = fit done own b ps out && fit_from live done own b ps out
 fit_from live done own b (One due least ∷ ps) out = live (inside own due) least && (opens_so (past (inside own due) least) (pieces_phrase own ps) out && (fit done own b ps out && fit_from live done own b ps out))
 fit_from live done own b (Group (Ended c d) due least ∷ (p ∷ ps)) out =
-    live due least && (group_done done (Ended c d) due least && (opens_so (group_past (Ended c d) due least) (pieces_phrase own (p ∷ ps)) out && (fit done own b (p ∷ ps) out && (fit_from live done own b ps out && fit_from live done own b (p ∷ ps) out))))
-fit_from live done own b (Group r due least ∷ ps) out = is_plain r && (live due least && (group_done done r due least && (opens_so (group_past r due least) (pieces_phrase own ps) out && (fit done own b ps out && fit_from live done own b ps out))))
+    (live due least && done due least) && (group_done done (Ended c d) due least && (opens_so (group_past (Ended c d) due least) (pieces_phrase own (p ∷ ps)) out && (fit done own b (p ∷ ps) out && (fit_from live done own b ps out && fit_from live done own b (p ∷ ps) out))))
+fit_from live done own b (Group r due least ∷ ps) out = is_plain r && ((live due least && done due least) && (group_done done r due least && (opens_so (group_past r due least) (pieces_phrase own ps) out && (fit done own b ps out && fit_from live done own b ps out))))
 fit_from live done own b (Then e ∷ ps) out = allowed e b && fit_from live done own (pending e b) ps out
 fit_from live done own b (p ∷ ps) out = false
 
@@ -157,11 +161,11 @@ module _ (part : Parts) (own : Sort) (f : Form) (done : Known) (E : Ending part 
       let j = both (is_plain r) (group_done done r due least && (opens_so (group_past r due least) (pieces_phrase own ps) out && fit done own b ps out)) h in
       let k = both (group_done done r due least) (opens_so (group_past r due least) (pieces_phrase own ps) out && fit done own b ps out) j.1 in
       let m = both (opens_so (group_past r due least) (pieces_phrase own ps) out) (fit done own b ps out) k.1 in
-      let g = both (done due least) (group_ends r due && sound r due) k.0 in
+      let g = both (not (needs r) || done due least) (group_ends r due && sound r due) k.0 in
       let o = both (group_ends r due) (sound r due) g.1 in
       fin_bind body z (Stays b a) (none_of (group_past r due least)) (none_of out) (Ended_so a) (gathered r due (part due least) before)
       (λ g. Bind (pieces_in part own f (before_by (has_none g.1.trees)) ps) (λ h. Give (with_first (list_from g.0 g.1) h))) (group_phrase r due) (pieces_phrase own ps)
-      (fin_within b (none_of (group_past r due least)) (gathered r due (part due least) before) (group_phrase r due) (λ a z k. fin_gathered a due least (part due least) (E.firm due least) (E.ends due least g.0 a) r before j.0 o.1 o.0 z k) a z w)
+      (fin_within b (none_of (group_past r due least)) (gathered r due (part due least) before) (group_phrase r due) (λ a z k. fin_gathered a due least (part due least) (E.firm due least) r before (λ e. E.ends due least (if_needed (needs r) (done due least) g.0 e) a) j.0 o.1 o.0 z k) a z w)
       (opens_if (group_past r due least) (pieces_phrase own ps) out m.0)
       (λ g t n. fin_map body t (Ended_so a) (none_of out) (Ended_so a) (pieces_in part own f (before_by (has_none g.1.trees)) ps) (λ h. with_first (list_from g.0 g.1) h) (pieces_phrase own ps) (fin_pieces b (before_by (has_none g.1.trees)) ps m.1 a t n) (λ h t k. k))
   fin_pieces b before (One due least ∷ ps) h a z w =
@@ -208,18 +212,19 @@ module _ (calls : Calls) (deep : ℕ) (part : Parts) (own : Sort) (f : Form) (li
   live_pieces b before (Rest due ∷ ps) h a z y w = absurd (cc h)
   live_pieces b before (Anything ∷ ps) h a z y w = absurd (cc h)
   live_pieces b before (Group (Ended c d) due least ∷ (p ∷ ps)) h a z y w =
-      let i = both (live due least) (group_done done (Ended c d) due least && (opens_so (group_past (Ended c d) due least) (pieces_phrase own (p ∷ ps)) out && (fit done own b (p ∷ ps) out && (fit_from live done own b ps out && fit_from live done own b (p ∷ ps) out)))) h in
+      let i = both (live due least && done due least) (group_done done (Ended c d) due least && (opens_so (group_past (Ended c d) due least) (pieces_phrase own (p ∷ ps)) out && (fit done own b (p ∷ ps) out && (fit_from live done own b ps out && fit_from live done own b (p ∷ ps) out)))) h in
       let k = both (group_done done (Ended c d) due least) (opens_so (group_past (Ended c d) due least) (pieces_phrase own (p ∷ ps)) out && (fit done own b (p ∷ ps) out && (fit_from live done own b ps out && fit_from live done own b (p ∷ ps) out))) i.1 in
       let m = both (opens_so (group_past (Ended c d) due least) (pieces_phrase own (p ∷ ps)) out) (fit done own b (p ∷ ps) out && (fit_from live done own b ps out && fit_from live done own b (p ∷ ps) out)) k.1 in
       let n = both (fit done own b (p ∷ ps) out) (fit_from live done own b ps out && fit_from live done own b (p ∷ ps) out) m.1 in
       let e = both (fit_from live done own b ps out) (fit_from live done own b (p ∷ ps) out) n.1 in
       let g = both (done due least) (group_ends (Ended c d) due && sound (Ended c d) due) k.0 in
       let o = both (group_ends (Ended c d) due) (sound (Ended c d) due) g.1 in
+      let l = both (live due least) (done due least) i.0 in
       live_bind body calls deep z y (Stays b a) (Unending b a) (none_of (group_past (Ended c d) due least)) (none_of out) (Ends_so a) (gathered (Ended c d) due (part due least) before)
       (λ g. Bind (choose g.1.is_ended (pieces_in part own f Usual ps) (pieces_in part own f Usual (p ∷ ps))) (λ h. Give (with_first (list_from g.0 g.1) h)))
       (live_unended calls deep b (none_of (group_past (Ended c d) due least)) (gathered (Ended c d) due (part due least) before)
-      (λ a z y k. live_listed a due least (part due least) c d o.1 (E.ends due least g.0 a) o.0 calls deep (L.lives due least i.0 a) (L.leaves due least i.0) before z y k) a z y w)
-      (leaves_within b (gathered (Ended c d) due (part due least) before) (λ a z y k e. stays_gathered (below body e) e (Ended c d) due (part due least) before (λ a z y k. L.leaves due least i.0 a z y k e) a z y k) a z y w)
+      (λ a z y k. live_listed a due least (part due least) c d o.1 (E.ends due least l.1 a) o.0 calls deep (L.lives due least l.0 a) (L.leaves due least l.0) before z y k) a z y w)
+      (leaves_within b (gathered (Ended c d) due (part due least) before) (λ a z y k e. stays_gathered (below body e) e (Ended c d) due (part due least) before (λ a z y k. L.leaves due least l.0 a z y k e) a z y k) a z y w)
       (record {
         tokens = pieces_phrase own (p ∷ ps);
         opens = opens_if (group_past (Ended c d) due least) (pieces_phrase own (p ∷ ps)) out m.0;
@@ -229,18 +234,19 @@ module _ (calls : Calls) (deep : ℕ) (part : Parts) (own : Sort) (f : Form) (li
       (λ g t y q. live_map body calls deep t y (Ends_so a) (none_of out) (none_of out) (Ends_so a) (choose g.1.is_ended (pieces_in part own f Usual ps) (pieces_in part own f Usual (p ∷ ps))) (λ h. with_first (list_from g.0 g.1) h) (λ x q. q) (λ h t k. k)
       (live_choose body calls deep t y (none_of out) (Ends_so a) g.1.is_ended (pieces_in part own f Usual ps) (pieces_in part own f Usual (p ∷ ps)) (λ _. live_pieces b Usual ps e.0 a t y q) (λ _. live_pieces b Usual (p ∷ ps) e.1 a t y q)))
   live_pieces b before (Group r due least ∷ ps) h a z y w =
-      let j = both (is_plain r) (live due least && (group_done done r due least && (opens_so (group_past r due least) (pieces_phrase own ps) out && (fit done own b ps out && fit_from live done own b ps out)))) h in
-      let i = both (live due least) (group_done done r due least && (opens_so (group_past r due least) (pieces_phrase own ps) out && (fit done own b ps out && fit_from live done own b ps out))) j.1 in
+      let j = both (is_plain r) ((live due least && done due least) && (group_done done r due least && (opens_so (group_past r due least) (pieces_phrase own ps) out && (fit done own b ps out && fit_from live done own b ps out)))) h in
+      let i = both (live due least && done due least) (group_done done r due least && (opens_so (group_past r due least) (pieces_phrase own ps) out && (fit done own b ps out && fit_from live done own b ps out))) j.1 in
       let k = both (group_done done r due least) (opens_so (group_past r due least) (pieces_phrase own ps) out && (fit done own b ps out && fit_from live done own b ps out)) i.1 in
       let m = both (opens_so (group_past r due least) (pieces_phrase own ps) out) (fit done own b ps out && fit_from live done own b ps out) k.1 in
       let n = both (fit done own b ps out) (fit_from live done own b ps out) m.1 in
-      let g = both (done due least) (group_ends r due && sound r due) k.0 in
+      let g = both (not (needs r) || done due least) (group_ends r due && sound r due) k.0 in
       let o = both (group_ends r due) (sound r due) g.1 in
+      let l = both (live due least) (done due least) i.0 in
       live_bind body calls deep z y (Stays b a) (Stays b a) (none_of (group_past r due least)) (none_of out) (Ends_so a) (gathered r due (part due least) before)
       (λ g. Bind (pieces_in part own f (before_by (has_none g.1.trees)) ps) (λ h. Give (with_first (list_from g.0 g.1) h)))
       (live_within calls deep b (none_of (group_past r due least)) (gathered r due (part due least) before)
-      (λ a z y k. live_gathered a due least (part due least) (E.firm due least) (E.ends due least g.0 a) calls deep (L.lives due least i.0 a) (L.leaves due least i.0 a) r before j.0 o.1 z y k) a z y w)
-      (leaves_within b (gathered r due (part due least) before) (λ a z y k e. stays_gathered (below body e) e r due (part due least) before (λ a z y k. L.leaves due least i.0 a z y k e) a z y k) a z y w)
+      (λ a z y k. live_gathered a due least (part due least) (E.firm due least) (E.ends due least l.1 a) calls deep (L.lives due least l.0 a) (L.leaves due least l.0 a) r before j.0 o.1 z y k) a z y w)
+      (leaves_within b (gathered r due (part due least) before) (λ a z y k e. stays_gathered (below body e) e r due (part due least) before (λ a z y k. L.leaves due least l.0 a z y k e) a z y k) a z y w)
       (record {
         tokens = pieces_phrase own ps;
         opens = opens_if (group_past r due least) (pieces_phrase own ps) out m.0;
