@@ -20,7 +20,7 @@ use Rattle.c_reader.proofs.Leaves.{Leaves}
 use Rattle.c_reader.proofs.Phrases.{Tokens, Finishes, fin_ask, fin_pick}
 use Rattle.c_reader.proofs.Live.{Live}
 use Rattle.c_syntax.specs.Reading.{Usual, nothing, called, node, parts_by, is_starred, completed}
-use Rattle.c_syntax.specs.Grammar.{body, whole, charged, begun_by, in_place, literal_of}
+use Rattle.c_syntax.specs.Grammar.{body, whole, charged, begun_by, in_place, literal, literal_of}
 use Rattle.c_alive.proofs.Kept.{Still, kept_in_place}
 use Rattle.c_alive.proofs.Tame.{firm_in_place}
 use Rattle.c_alive.proofs.Phrased.{none_of, past, phrase}
@@ -79,10 +79,13 @@ shape_starts z (shape.Punct p) = sign_starts z p
 shape_starts z (shape.Key k) = key_starts z k
 shape_starts z _ = refl
 
+pub fin_literal : (a : List Kept) (z : State) → Still a z → Finishes body z (none_of []) (λ _ t. Still a t) literal (phrase s.Literal)
+fin_literal a z k = fin_ask body z (none_of []) (λ _ t. Still a t) (λ i. Pick (λ x. literal_of x.shape i.place)) (phrase s.Literal)
+    (λ place. fin_pick body z (none_of []) (λ _ t. Still a t) (λ x. literal_of x.shape place) (shape.Str (record { 0 = 0 })) (λ _. node (form.Literal (record { 0 = 0 })) place (place + 1) nothing) (λ _. refl) (λ _. k))
+
 literal_ends : (n : ℕ) (due : Sort) (least : ℕ) → a_literal due least ≡ true → (a : List Kept) (z : State) → Still a z → Finishes body z (none_of (past due least)) (λ _ t. Still a t) (in_place (suc n) due least) (phrase due)
 unfolding in_place
-literal_ends n s.Literal least h a z k = fin_ask body z (none_of []) (λ _ t. Still a t) (λ i. Pick (λ x. literal_of x.shape i.place)) (phrase s.Literal)
-    (λ place. fin_pick body z (none_of []) (λ _ t. Still a t) (λ x. literal_of x.shape place) (shape.Str (record { 0 = 0 })) (λ _. node (form.Literal (record { 0 = 0 })) place (place + 1) nothing) (λ _. refl) (λ _. k))
+literal_ends n s.Literal least h a z k = fin_literal a z k
 literal_ends n _ least h a z k = absurd (cc h)
 
 pub literals_end : (n : ℕ) → Ending (in_place (suc n)) a_literal

@@ -21,15 +21,15 @@ use Rattle.c_syntax.specs.Grammar.{Standing, continued_by, is_tail}
 use Rattle.c_alive.proofs.Phrased.{none_of}
 
 -- whether a form is as tight as it must be
-abbrev tight_enough : ℕ → Option Form → Bool
+abbrev pub tight_enough : ℕ → Option Form → Bool
 tight_enough least (Some f) = not (nat_lt (level f) least)
 tight_enough least None = false
 
-abbrev of_punct : Punct → ℕ
+abbrev pub of_punct : Punct → ℕ
 of_punct p = class_number (class.Punct p)
 
 -- the punctuators that a form that is tight enough goes on with
-abbrev tails : Sort → ℕ → List Punct → Classes
+abbrev pub tails : Sort → ℕ → List Punct → Classes
 tails due least [] = []
 tails due least (p ∷ ps) = given (tight_enough least (continued due p)) (of_punct p ∷ []) ++ tails due least ps
 
@@ -64,7 +64,7 @@ tail_tight due least z y (Some f) h = (both (not (nat_lt (level f) least)) _ h).
 tail_tight due least z y None h = absurd (cc h)
 
 -- what is no tail is over
-ends_tails : (due : Sort) (least : ℕ) (set : Classes) → ((c : ℕ) → has (tails due least all_puncts) c ≡ true → has set c ≡ true) → (z : State) (y : Standing) (x : Shape) → none_of set x ≡ true → is_tail due least z y (continued_by due x) ≡ false
+pub ends_tails : (due : Sort) (least : ℕ) (set : Classes) → ((c : ℕ) → has (tails due least all_puncts) c ≡ true → has set c ≡ true) → (z : State) (y : Standing) (x : Shape) → none_of set x ≡ true → is_tail due least z y (continued_by due x) ≡ false
 ends_tails due least set has_them z y (shape.Punct p) q = by_test (is_tail due least z y (continued due p)) refl
   where
     by_test : (b : Bool) → is_tail due least z y (continued due p) ≡ b → is_tail due least z y (continued due p) ≡ false
