@@ -29,14 +29,15 @@ is_due (Of s.Declarator least) = nat_eq least 1
 is_due (Of s.Qualifier least) = true
 is_due _ = false
 
-abbrev pub is_declarator : Rule → Bool
-is_declarator (Of s.Declarator least) = true
-is_declarator _ = false
+-- what declares a name
+abbrev pub names : Rule → Bool
+names (Of s.Declarator least) = true
+names _ = false
 
 -- Each keeps the declarations around it, and a declarator that is due is a function's.
 abbrev pub GivesBy : Bool → Rule → List Kept → State → Type 0
 GivesBy false n a t = Still a t
-GivesBy true n a t = ((t.aside ≡ a) × (t.kept.is_function_due ≡ true)) × (is_declarator n ≡ true → is_function t ≡ true)
+GivesBy true n a t = ((t.aside ≡ a) × (t.kept.is_function_due ≡ true)) × (names n ≡ true → is_function t ≡ true)
 
 abbrev pub Good : Rule → State → Shape → Type 0
 Good n z y = (is_called n ≡ true) × ((at_reached n ≡ true) × (z.kept.is_function_due ≡ true → is_due n ≡ true))

@@ -20,7 +20,7 @@ use Rattle.c_alive.proofs.Phrased.{none_of, a_word, live_fewer}
 use Rattle.c_alive.proofs.FitRows.{operand, operand_ends, cast_fits}
 use Rattle.c_alive.proofs.Rows.{live_pieces}
 use Rattle.c_alive.proofs.Nodes.{live_completed}
-use Rattle.c_alive.proofs.Operands.{operands_ending, operands_able}
+use Rattle.c_alive.proofs.Operands.{in_body, operands_ending, operands_able}
 use Rattle.c_alive.proofs.Parens.{and_close, fin_wrapped, live_wrapped}
 use Rattle.c_alive.proofs.ExpTails.{fewer}
 use Rattle.c_alive.proofs.Called.{calls}
@@ -80,6 +80,6 @@ module _ (least : ℕ) (a : List Kept) where
 
   pub live_entered : (deep i : ℕ) (z : State) (y : Shape) → Still a z → Live body calls deep z y past Held (entered least i)
   live_entered deep i z y k = (
-    begun_type_or (cast i) (standing 17 (parenthesized s.Exp)) (fin_wrapped a (goes_on s.Exp least)) z y k,
-    live_type_or (cast i) (standing 17 (parenthesized s.Exp)) (fin_wrapped a (goes_on s.Exp least)) 1 (λ t y w. live_cast 1 (omega arith) i t y w) (λ t y k. live_wrapped a (goes_on s.Exp least) 1 (omega arith) t y k) z y k,
+    begun_type_or (cast i) (standing 17 (parenthesized s.Exp)) (fin_wrapped s.Exp a (goes_on s.Exp least) refl (in_body s.Exp 1 refl a)) z y k,
+    live_type_or (cast i) (standing 17 (parenthesized s.Exp)) (fin_wrapped s.Exp a (goes_on s.Exp least) refl (in_body s.Exp 1 refl a)) 1 (λ t y w. live_cast 1 (omega arith) i t y w) (λ t y k. live_wrapped s.Exp a (goes_on s.Exp least) refl refl refl 1 (omega arith) t y k) z y k,
   )

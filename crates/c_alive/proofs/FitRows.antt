@@ -1,5 +1,5 @@
 -- Which rows without groups can be completed piece by piece, computed form by form.
-use Rattle.std.proofs.Common.{◌≡◌, refl, ℕ, nat_lt, not, Bool, true, false, Option, Some, None}
+use Rattle.std.proofs.Common.{◌≡◌, refl, ℕ, nat_eq, nat_lt, not, Bool, true, false, Option, Some, None}
 use Rattle.c_tokens.specs.declared.token.Punct.{Punct}
 use Rattle.c_tokens.specs.declared.token.Punct.TheVariants as punct
 use Rattle.c_tokens.specs.declared.class.Class.TheVariants as class
@@ -15,9 +15,13 @@ use Rattle.c_forms.specs.Tokens.{continued}
 use Rattle.c_syntax.specs.Grammar.{after_first, after_paren}
 use Rattle.c_alive.proofs.Rows.{fit_from, begins_with}
 
--- the levels of expressions that are read
+-- the levels of expressions and declarators that are read
 abbrev pub is_reached : Sort → ℕ → Bool
 is_reached s.Exp least = not (nat_lt 15 least)
+is_reached s.Declarator least = nat_eq least 1
+is_reached s.AbstractDeclarator least = nat_eq least 1
+is_reached s.ParamDeclarator least = nat_eq least 1
+is_reached s.MemberName least = nat_eq least 1
 is_reached _ least = true
 
 -- the sorts of the operands of expressions

@@ -50,6 +50,13 @@ abbrev pub is_item : Sort → Bool
 is_item s.Item = true
 is_item _ = false
 
+abbrev pub is_declarator : Sort → Bool
+is_declarator s.Declarator = true
+is_declarator s.AbstractDeclarator = true
+is_declarator s.ParamDeclarator = true
+is_declarator s.MemberName = true
+is_declarator due = false
+
 -- the rules that are called
 abbrev pub is_called : Rule → Bool
 is_called (Of due least) = not (is_item due)
@@ -182,7 +189,7 @@ module _ (B : Rule → Input → Outcome Found) (d : ℕ) where
   stays_separated None r R = R
   stays_separated (Some c) r R = stays_next r R
 
-  stays_others : (r : Repetition) (due : Sort) (element : Reader Found) (g : Gathered) → Stays element → Stays (others r due element g)
+  pub stays_others : (r : Repetition) (due : Sort) (element : Reader Found) (g : Gathered) → Stays element → Stays (others r due element g)
   unfolding others
   stays_others r due element g E = stays_repeat (goes r due) (λ _ g. separated (separator_of r) (element_after element g)) g (λ x g. stays_separated (separator_of r) (element_after element g) (stays_element element g E))
 
@@ -726,3 +733,21 @@ kept_tail due i s x a z y k d = let C : (n : Rule) → is_called n ≡ true → 
 pub kept_primary : (n least : ℕ) (a : List Kept) (z : State) (y : Shape) → Still a z → Leaves body z y (primary (in_place n) least) (λ _ t. Still a t)
 kept_primary n least a z y k d = let C : (n : Rule) → is_called n ≡ true → Stays (below body d) d (Call n) = stays_call (below body d) d (λ n z y. kept_call n z y d) in
     stays_primary (below body d) d C (in_place n) (stays_in_place (below body d) d C n) least a z y k
+
+-- a climb
+pub kept_climb : (due : Sort) (least i : ℕ) (s : Standing) (a : List Kept) (z : State) (y : Shape) → Still a z → Leaves body z y (climb due least i s) (λ _ t. Still a t)
+kept_climb due least i s a z y k d = stays_climb (below body d) d (stays_call (below body d) d (λ n z y. kept_call n z y d)) due least i s a z y k
+
+-- and the first part of a declarator
+pub kept_head : (n : ℕ) (due : Sort) → is_declarator due ≡ true → (least : ℕ) (a : List Kept) (z : State) (y : Shape) → Still a z → Leaves body z y (declarator_head (in_place n) due least) (λ _ t. Still a t)
+kept_head n due h least a z y k d = by_sort due h
+  where
+    C : (n : Rule) → is_called n ≡ true → Stays (below body d) d (Call n)
+    C = stays_call (below body d) d (λ n z y. kept_call n z y d)
+
+    by_sort : (due : Sort) → is_declarator due ≡ true → Leaving (below body d) d z y (declarator_head (in_place n) due least) (λ _ t. Still a t)
+    by_sort s.Declarator h = stays_head (below body d) d C (in_place n) (stays_in_place (below body d) d C n) s.Declarator refl refl refl refl refl least a z y k
+    by_sort s.AbstractDeclarator h = stays_head (below body d) d C (in_place n) (stays_in_place (below body d) d C n) s.AbstractDeclarator refl refl refl refl refl least a z y k
+    by_sort s.ParamDeclarator h = stays_head (below body d) d C (in_place n) (stays_in_place (below body d) d C n) s.ParamDeclarator refl refl refl refl refl least a z y k
+    by_sort s.MemberName h = stays_head (below body d) d C (in_place n) (stays_in_place (below body d) d C n) s.MemberName refl refl refl refl refl least a z y k
+    by_sort _ h = absurd (cc h)

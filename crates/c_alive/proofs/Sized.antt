@@ -20,7 +20,7 @@ use Rattle.c_alive.proofs.FitRows.{operand, operand_ends, sizeof_type_fits}
 use Rattle.c_alive.proofs.Tails.{exp_over}
 use Rattle.c_alive.proofs.Rows.{fin_pieces, live_pieces}
 use Rattle.c_alive.proofs.Nodes.{live_completed, fin_completed}
-use Rattle.c_alive.proofs.Operands.{operands_ending, operands_able}
+use Rattle.c_alive.proofs.Operands.{in_body, operands_ending, operands_able}
 use Rattle.c_alive.proofs.Climbs.{fin_climb}
 use Rattle.c_alive.proofs.Parens.{and_close, fin_wrapped}
 use Rattle.c_alive.proofs.Entered.{live_tight, fin_tight, live_type_or}
@@ -40,7 +40,7 @@ module _ (a : List Kept) where
   pub fin_opened : (z : State) → Still a z → Finishes body z past_size Held opened (a_word ∷ and_close)
   unfolding opened
   fin_opened z k = fin_ask body z past_size Held (λ i. Bind first_paren (λ y. climb s.Exp 15 (i.place - 1) y)) (a_word ∷ and_close) (λ place. fin_last body z Held past_size past_size Held first_paren (λ y. climb s.Exp 15 (place - 1) y) (a_word ∷ and_close)
-      (fin_look body z past_size Held (λ x. choose (begins s.Exp x) (Fits 0 (standing 17 (parenthesized s.Exp))) Refuse) a_word and_close (λ n. fin_fits body z past_size Held 0 (standing 17 (parenthesized s.Exp)) (a_word ∷ and_close) (fin_wrapped a (goes_on s.Exp 15) z k)))
+      (fin_look body z past_size Held (λ x. choose (begins s.Exp x) (Fits 0 (standing 17 (parenthesized s.Exp))) Refuse) a_word and_close (λ n. fin_fits body z past_size Held 0 (standing 17 (parenthesized s.Exp)) (a_word ∷ and_close) (fin_wrapped s.Exp a (goes_on s.Exp 15) refl (in_body s.Exp 1 refl a) z k)))
       (λ x q. q) (λ y t k. fin_climb s.Exp 15 (place - 1) a past_size (λ y z x q. exp_over 15 z y x q) t y k))
 
   abbrev from_opened : ℕ → Found → Reader Found

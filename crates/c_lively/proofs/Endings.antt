@@ -29,7 +29,7 @@ use Rattle.c_syntax.specs.Allowed.{has_name}
 use Rattle.c_syntax.specs.Reading.{Usual, Parts, nothing, parts_of, is_starred, called, pieces_in, completed}
 use Rattle.c_syntax.specs.Grammar.{body, whole, charged, is_sign, is_value, sign, Standing, standing, begins, may_be_absent, may_be_named, absent_at, the_declarator, opened_declarator, tight, climb, declarator_head, declarator_of, is_tail, continued_by, specifier, parameters, typed, initializer, statement, block, late, block_item, declaration_at, at_sort, in_place, declared_identifier}
 use Rattle.c_alive.proofs.Tame.{firm_in_place, firm_called}
-use Rattle.c_alive.proofs.Kept.{Still, event_within}
+use Rattle.c_alive.proofs.Kept.{Still, is_declarator, event_within}
 use Rattle.c_alive.proofs.Phrased.{none_of, none_within, past, phrase, pieces_phrase, a_word}
 use Rattle.c_alive.proofs.Rows.{Known, Ending, fit, fin_pieces}
 use Rattle.c_alive.proofs.Tails.{ends_tails}
@@ -83,13 +83,6 @@ fin_specifier inner s.Qualifier h Q a z k = fin_ask body z Q (λ _ t. Still a t)
 fin_specifier inner _ h Q a z k = absurd (cc h)
 
 -- ---- declarators: a name, or nothing
-
-abbrev pub is_declarator : Sort → Bool
-is_declarator s.Declarator = true
-is_declarator s.AbstractDeclarator = true
-is_declarator s.ParamDeclarator = true
-is_declarator s.MemberName = true
-is_declarator due = false
 
 has_tails : (due : Sort) (least : ℕ) → is_declarator due ≡ true → (c : ℕ) → has (goes_on s.Declarator least) c ≡ true → has (goes_on due least) c ≡ true
 has_tails s.Declarator least h c o = o
