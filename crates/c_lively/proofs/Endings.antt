@@ -69,7 +69,7 @@ unfolding whole pieces_in
 fin_const inner own Q a z k = fin_ask body z Q (λ _ t. Still a t) (λ i. completed inner own const_form i.place nothing (pieces const_form)) (a_const ∷ []) (λ place. fin_completed a Q inner own const_form place nothing (pieces const_form) z (a_const ∷ [])
     (fin_last body z (λ _ t. Still a t) Q Q (λ _ t. Still a t) (Pick (λ x. only (has (held_class const_form) x.class))) (λ _. Give nothing) (a_const ∷ []) (fin_pick body z Q (λ _ t. Still a t) (λ x. only (has (held_class const_form) x.class)) a_const (λ m. tt) (λ m. refl) (λ m. k)) (λ x q. q) (λ b t k. fin_give body t Q (λ _ t. Still a t) nothing k)))
 
-abbrev is_spec : Sort → Bool
+abbrev pub is_spec : Sort → Bool
 is_spec s.Spec = true
 is_spec s.PlainSpec = true
 is_spec s.Qualifier = true

@@ -1,3 +1,5 @@
 pub mod Ranks
 pub mod Endings
 pub mod Wholes
+pub mod Specifiers
+pub mod Declarators

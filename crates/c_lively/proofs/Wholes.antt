@@ -33,6 +33,15 @@ at_level due least h = (both (is_reached due least) _ h).0
 pub callable : (deep : ℕ) → 0 < deep → Able calls deep called met
 callable deep room = record { lives = λ due least h a z y k. live_called deep room due least (no_item due least h) (at_level due least h) a z y k; leaves = λ due least h a z y k. kept_called due least (no_item due least h) a z y k }
 
+-- whether the node counts for the height or not
+pub calling_by : (b : Bool) → Ending (parts_by b called) met
+calling_by true = calling
+calling_by false = calling
+
+pub callable_by : (deep : ℕ) → 0 < deep → (b : Bool) → Able calls deep (parts_by b called) met
+callable_by deep room true = callable deep room
+callable_by deep room false = callable deep room
+
 abbrev pub known_by : Bool → Known → Known
 known_by true known = met
 known_by false known = known
