@@ -5,3 +5,5 @@ pub mod Specifiers
 pub mod Declarators
 pub mod Parameters
 pub mod Statements
+pub mod BlockItems
+pub mod Alive

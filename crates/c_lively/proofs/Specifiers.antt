@@ -24,7 +24,7 @@ use Rattle.c_lively.proofs.Endings.{is_spec}
 use Rattle.c_lively.proofs.Wholes.{fits, starts_so, live_whole}
 
 -- no parts of specifiers lie in place
-abbrev no_part : Known
+abbrev pub no_part : Known
 no_part due least = false
 
 -- whether the form that a token begins can be completed after it

@@ -22,7 +22,7 @@ use Rattle.c_alive.proofs.Called.{calls, live_called}
 use Rattle.c_lively.proofs.Ranks.{met}
 use Rattle.c_lively.proofs.Endings.{calling}
 
-no_item : (due : Sort) (least : ℕ) → met due least ≡ true → is_item due ≡ false
+pub no_item : (due : Sort) (least : ℕ) → met due least ≡ true → is_item due ≡ false
 no_item s.Item least h = absurd (cc h)
 no_item _ least h = refl
 
