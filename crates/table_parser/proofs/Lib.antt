@@ -1,7 +1,10 @@
 pub mod Sets
-pub mod Heights
 pub mod Levels
 pub mod Loops
 pub mod Separators
 pub mod Elements
+pub mod Fillings
 pub mod Pushed
+pub mod Sounds
+pub mod Follows
+pub mod Chains

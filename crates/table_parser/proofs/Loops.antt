@@ -36,15 +36,15 @@ module _ {A S : Type 0} (turn : S → Input → Outcome (Turn S A)) (s : S) (i :
   loop_broken (suc n) x e = rw e refl
 
 module _ {S : Type 0} (d : ℕ) (s : S) (i : Input) where
-  on_by : (b : Bool) (r : Reader S) (t : S) (j : Input) → b ≡ true → read d r i ≡ Ok (t, j) → read d (choose b (Bind r (λ t. Give (More t))) (Give (Last s))) i ≡ Ok (More t, j)
+  pub on_by : (b : Bool) (r : Reader S) (t : S) (j : Input) → b ≡ true → read d r i ≡ Ok (t, j) → read d (choose b (Bind r (λ t. Give (More t))) (Give (Last s))) i ≡ Ok (More t, j)
   on_by true r t j g e = rw e refl
   on_by false r t j g e = grind (arith, g)
 
-  off_by : (b : Bool) (r : Reader S) → b ≡ false → read d (choose b (Bind r (λ t. Give (More t))) (Give (Last s))) i ≡ Ok (Last s, i)
+  pub off_by : (b : Bool) (r : Reader S) → b ≡ false → read d (choose b (Bind r (λ t. Give (More t))) (Give (Last s))) i ≡ Ok (Last s, i)
   off_by true r g = grind (arith, g)
   off_by false r g = refl
 
-  broken_by : (b : Bool) (r : Reader S) (x : Refusal) → b ≡ true → read d r i ≡ Err x → read d (choose b (Bind r (λ t. Give (More t))) (Give (Last s))) i ≡ Err x
+  pub broken_by : (b : Bool) (r : Reader S) (x : Refusal) → b ≡ true → read d r i ≡ Err x → read d (choose b (Bind r (λ t. Give (More t))) (Give (Last s))) i ≡ Err x
   broken_by true r x g e = rw e refl
   broken_by false r x g e = grind (arith, g)
 

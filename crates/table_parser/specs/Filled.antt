@@ -1,5 +1,5 @@
--- A reader that puts the parts of pieces after others.
-use Rattle.std.specs.Prelude.{Bool, true, false, not, ◌&&◌, List, [], ◌∷◌}
+-- A reader that puts the parts of pieces after others, piece by piece.
+use Rattle.std.specs.Prelude.{◌≡◌, ◌≢◌, ℕ, Bool, true, false, List, [], ◌∷◌, Result, Ok, Err}
 use Rattle.c_tokens.specs.ClassNumbers.{class_number}
 use Rattle.c_forms.specs.declared.pieces.Sort.{Sort}
 use Rattle.c_forms.specs.declared.pieces.Repetition.{Repetition}
@@ -9,13 +9,16 @@ use Rattle.c_forms.specs.declared.pieces.Piece.TheVariants.{Token, Maybe, Own, T
 use Rattle.c_forms.specs.declared.forms.Form.{Form}
 use Rattle.c_forms.specs.Forests.{Plain}
 use Rattle.c_forms.specs.Sets.{has, held_class}
-use Rattle.c_reader.specs.Readers.{Reader, Give, Refuse, Look, Next, Pick, Ask, Change, ◌>>=◌, ◌>>◌, choose, only, token}
+use Rattle.c_reader.specs.declared.refusal.Refusal.{Refusal}
+use Rattle.c_reader.specs.declared.refusal.Refusal.TheVariants.{Memory}
+use Rattle.c_reader.specs.Readers.{Reader, Input, Outcome, Give, Refuse, Look, Next, Pick, Ask, Change, ◌>>=◌, ◌>>◌, choose, only, token}
 use Rattle.c_syntax.specs.Allowed.{may_happen}
 use Rattle.c_syntax.specs.Reading.{Parts, Listed, Before, Usual, Missing, Taken, one, joined, gathered, list_from, inside, before_by, is_absent, is_class}
-use Rattle.table_parser.specs.declared.grammar.Before.{Before as RustBefore}
-use Rattle.table_parser.specs.declared.grammar.Before.TheVariants as the_before
+use Rattle.table_parser.specs.declared.filling.Before.{Before as RustBefore}
+use Rattle.table_parser.specs.declared.filling.Before.TheVariants as the_before
+use Rattle.table_parser.specs.declared.filling.Filling.{Filling as RustFilling}
 use Rattle.table_parser.specs.Founds.{is_none}
-use Rattle.table_parser.specs.Sound.{is_token, is_sound}
+use Rattle.table_parser.specs.Nests.{read}
 
 abbrev pub before_of : RustBefore → Before
 before_of the_before.Usual = Usual
@@ -32,26 +35,47 @@ abbrev pub skips : Repetition → Bool → Bool
 skips (Ended separator end_token) is_ended = is_ended
 skips r is_ended = false
 
-unfoldable pub filled : Parts → Sort → Form → Bool → Before → List Piece → Listed → Reader Listed
-filled part own f skip before [] done = Give done
-filled part own f true before (p ∷ ps) done = filled part own f false Usual ps done
-filled part own f false before (Token c ∷ ps) done = token (class_number c) >> filled part own f false Usual ps done
-filled part own f false before (Maybe c ∷ ps) done = Look (λ x. choose (is_class c x) (Next (filled part own f false Usual ps done)) (filled part own f false Usual ps done))
-filled part own f false before (Own ∷ ps) done = Pick (λ x. only (has (held_class f) x.class)) >> filled part own f false Usual ps done
-filled part own f false before (One due least ∷ ps) done = part (inside own due) least >>= λ x. filled part own f false (before_by (is_absent x.tree)) ps (joined done (one x))
-filled part own f false before (Group r due least ∷ ps) done = gathered r due (part due least) before
-    >>= λ g. filled part own f (skips r g.1.is_ended) (before_after r g.1.trees) ps (joined done (one (list_from g.0 g.1)))
-filled part own f false before (Then e ∷ ps) done = Ask (λ i. choose (may_happen e i.state) (Change e (filled part own f false before ps done)) Refuse)
-filled part own f false before (TypeTokens ∷ ps) done = Refuse
-filled part own f false before (KindName ∷ ps) done = Refuse
-filled part own f false before (Rest due ∷ ps) done = Refuse
-filled part own f false before (Anything ∷ ps) done = Refuse
+-- the parts so far, what stood before the next piece, and whether that is skipped
+pub record Filling : Type 0 where
+  pub is_skipped : Bool
+  pub before : Before
+  pub done : Listed
 
--- the end of the source is no token of these pieces
-abbrev pub are_sound : Form → List Piece → Bool
-are_sound f [] = true
-are_sound f (Token c ∷ ps) = is_token c && are_sound f ps
-are_sound f (Maybe c ∷ ps) = is_token c && are_sound f ps
-are_sound f (Own ∷ ps) = not (has (held_class f) 118) && are_sound f ps
-are_sound f (Group r due least ∷ ps) = is_sound r && are_sound f ps
-are_sound f (p ∷ ps) = are_sound f ps
+abbrev pub filling_of : RustFilling → Filling
+filling_of g = record { is_skipped = g.is_skipped; before = before_of g.before; done = g.done }
+
+abbrev pub going : Before → Listed → Filling
+going before done = record { is_skipped = false; before = before; done = done }
+
+abbrev pub by_piece : Parts → Sort → Form → Piece → Before → Listed → Reader Filling
+by_piece part own f (Token c) before done = token (class_number c) >> Give (going Usual done)
+by_piece part own f (Maybe c) before done = Look (λ x. choose (is_class c x) (Next (Give (going Usual done))) (Give (going Usual done)))
+by_piece part own f Own before done = Pick (λ x. only (has (held_class f) x.class)) >> Give (going Usual done)
+by_piece part own f (One due least) before done = part (inside own due) least >>= λ x. Give (going (before_by (is_absent x.tree)) (joined done (one x)))
+by_piece part own f (Group r due least) before done = gathered r due (part due least) before
+    >>= λ g. Give (record { is_skipped = skips r g.1.is_ended; before = before_after r g.1.trees; done = joined done (one (list_from g.0 g.1)) })
+by_piece part own f (Then e) before done = Ask (λ i. choose (may_happen e i.state) (Change e (Give (going before done))) Refuse)
+by_piece part own f TypeTokens before done = Refuse
+by_piece part own f KindName before done = Refuse
+by_piece part own f (Rest due) before done = Refuse
+by_piece part own f Anything before done = Refuse
+
+abbrev unless_skipped : Bool → Listed → Reader Filling → Reader Filling
+unless_skipped true done r = Give (going Usual done)
+unless_skipped false done r = r
+
+unfoldable pub with_piece : Parts → Sort → Form → Piece → Filling → Reader Filling
+with_piece part own f p g = unless_skipped g.is_skipped g.done (by_piece part own f p g.before g.done)
+
+unfoldable pub filled : Parts → Sort → Form → List Piece → Filling → Reader Listed
+filled part own f [] g = Give g.done
+filled part own f (p ∷ ps) g = with_piece part own f p g >>= λ h. filled part own f ps h
+
+-- what the pieces that are left answer
+unfoldable pub parts_after : ℕ → Parts → Sort → Form → List Piece → Filling → Input → Outcome Listed
+parts_after d part own f ps g i = read d (filled part own f ps g) i
+
+-- what a function that reads one piece ensures
+abbrev pub ReadsAs : Outcome Filling → Result RustFilling Refusal → Input → Type 0
+ReadsAs outcome (Ok g) new = outcome ≡ Ok (filling_of g, new)
+ReadsAs outcome (Err e) new = e ≢ Memory → outcome ≡ Err e

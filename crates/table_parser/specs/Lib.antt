@@ -5,4 +5,3 @@ pub mod Nests
 pub mod Sound
 pub mod Turns
 pub mod Filled
-pub mod Rights

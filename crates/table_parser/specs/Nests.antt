@@ -1,5 +1,5 @@
 -- A function value that reads what lies in a node.
-use Rattle.std.specs.Prelude.{◌≡◌, ℕ, ◌+◌, ◌*◌, ◌≤◌, Bool, true, false, [], ◌∷◌, Result, IfOk}
+use Rattle.std.specs.Prelude.{◌≡◌, ℕ, ◌+◌, ◌*◌, ◌≤◌, Bool, true, false, Result, IfOk}
 use Rattle.std.specs.declared.alloc.Global.{Global}
 use denote.Ref.{MutBor}
 use Rattle.c_forms.specs.declared.pieces.Sort.{Sort}
@@ -9,7 +9,6 @@ use Rattle.c_reader.specs.Readers as reader
 use Rattle.c_syntax.specs.Reading.{Parts, parts_by}
 use Rattle.c_syntax.specs.Grammar.{body, in_place}
 use Rattle.table_parser.specs.Cursors.{Progress}
-use Rattle.table_parser.specs.Founds.{Bounded}
 
 -- what a reader of plain C answers with so many levels left
 abbrev pub read : {A : Type 0} → ℕ → Reader A → Input → Outcome A
@@ -33,5 +32,5 @@ pub record Nests (depth places : ℕ) (pre : Global → MutBor Progress → ℕ 
       → Reads (read d (in_place p due least) old.now.input) r new.now.input
   pub kept : (alloc : Global) (old new : MutBor Progress) (d p : ℕ) (due : Sort) (least : ℕ) (r : Result Found Refusal) → post alloc old d p due least r new
       → new.now.before ≡ old.now.before
-  pub bounded : (alloc : Global) (old new : MutBor Progress) (d p : ℕ) (due : Sort) (least : ℕ) (r : Result Found Refusal) → post alloc old d p due least r new
-      → IfOk r (λ x. Bounded 0 d (x.tree ∷ []) x.height)
+  pub low : (alloc : Global) (old new : MutBor Progress) (d p : ℕ) (due : Sort) (least : ℕ) (r : Result Found Refusal) → post alloc old d p due least r new
+      → IfOk r (λ x. x.height ≤ d)

@@ -1,17 +1,15 @@
-//! What is read: trees, and how high they are as they are spelled.
+//! What is read: drafts of trees, and how high they are as they are spelled.
 
-ghost use Rattle.std.specs.Prelude.{◌≡◌, ◌≢◌, ◌<◌, ◌≤◌, ◌^◌, ◌+◌, ◌-◌, ◌∷◌, [], max, IfOk, IfErr, true};
-ghost use Rattle.c_forms.specs.Forests.{empty, forest};
-ghost use Rattle.c_forms.specs.Measures as measures;
-ghost use Rattle.c_forms.specs.Rules.{is_right};
+ghost use Rattle.std.specs.Prelude.{◌≡◌, ◌≢◌, ◌<◌, ◌≤◌, ◌^◌, ◌+◌, ◌-◌, ◌∷◌, [], max, IfOk, IfErr, true, false};
 ghost use Rattle.c_reader.specs.declared.refusal.Refusal.TheVariants as refusal;
+ghost use Rattle.c_syntax.specs.Grammar as grammar;
 ghost use Rattle.c_syntax.specs.Reading as reading;
-ghost use Rattle.table_parser.specs.Founds.{Bounded, is_none};
+ghost use Rattle.table_parser.specs.Founds.{is_none};
 
-use c_forms::{DeclaratorForm, Form};
+use c_forms::{DeclaratorForm, Form, GroupForm};
 use c_reader::Refusal;
 use c_tokens::Span;
-use c_trees::{Parts, Tree};
+use draft_trees::{Draft, Drafts};
 use form_decisions::is_starred;
 use std::alloc::Global;
 use std::marker::Model;
@@ -19,7 +17,7 @@ use std::marker::Model;
 /// A tree, and its height as it is spelled: each pair of parentheses that is added counts one.
 #[derive(Drop)]
 pub struct Found {
-    tree: Tree,
+    tree: Draft,
     height: usize,
 }
 
@@ -38,17 +36,43 @@ impl Found {
     /// The node of one token, of a form that does not count for the height.
     pub fn leaf(form: Form, place: usize) -> Found
         requires place { place < 2 ^ 32 - 1 }
-        requires low { measures.star form ≡ 0 }
-        requires right { is_right form empty ≡ true }
+        requires low { reading.is_starred form ≡ false }
         ensures { result ≡ reading.node form place (place + 1) reading.nothing }
     {
         Found {
-            tree: Tree::leaf(form, spanned(place, place + 1)),
+            tree: Draft::leaf(form, spanned(place, place + 1)),
             height: 0,
         }
     }
 
-    pub fn into_tree(self) -> Tree
+    /// A declarator that is absent, before a place (ISO/IEC 9899:1990, 6.5.5).
+    pub fn absent(place: usize) -> Found
+        requires place { place < 2 ^ 32 - 1 }
+        ensures { result ≡ grammar.absent_at place }
+    {
+        Found {
+            tree: Draft::leaf(
+                Form::Declarator(DeclaratorForm::Absent),
+                spanned(place, place),
+            ),
+            height: 0,
+        }
+    }
+
+    /// Whether it is a declarator that is absent.
+    pub fn is_absent(&self) -> bool
+        ensures { result ≡ reading.is_absent self.now.tree }
+    {
+        match self.form() {
+            Form::Declarator(form) => match form {
+                DeclaratorForm::Absent => true,
+                _ => false,
+            },
+            _ => false,
+        }
+    }
+
+    pub fn into_draft(self) -> Draft
         ensures { result ≡ self.tree }
     {
         self.tree
@@ -82,7 +106,7 @@ impl Found {
 /// Trees side by side, and the height that they have as parts.
 #[derive(Drop)]
 pub struct Listed {
-    trees: Parts,
+    trees: Drafts,
     height: usize,
 }
 
@@ -103,7 +127,7 @@ impl Listed {
         ensures { result ≡ reading.nothing }
     {
         Listed {
-            trees: Parts::new(),
+            trees: Drafts::new(),
             height: 0,
         }
     }
@@ -112,7 +136,7 @@ impl Listed {
         ensures { result ≡ reading.one found }
     {
         Listed {
-            trees: Parts::one(found.tree),
+            trees: Drafts::one(found.tree),
             height: found.height,
         }
     }
@@ -136,7 +160,7 @@ impl Listed {
 /// The elements of a list so far, and the place after the last.
 #[derive(Drop)]
 pub struct Gathered {
-    trees: Parts,
+    trees: Drafts,
     height: usize,
     last: usize,
     /// whether the separator was read after it, before an end
@@ -160,7 +184,7 @@ impl Gathered {
         ensures { result ≡ reading.none_at place }
     {
         Gathered {
-            trees: Parts::new(),
+            trees: Drafts::new(),
             height: 0,
             last: place,
             is_ended: false,
@@ -215,7 +239,12 @@ impl Gathered {
         ensures list { IfOk result (λ found. found ≡ reading.list_from start self) }
         ensures refused { IfErr result (λ e. e ≡ refusal.Memory) }
     {
-        match Tree::list(alloc, spanned(start, self.last), self.trees) {
+        match Draft::new(
+            alloc,
+            Form::Group(GroupForm::List),
+            spanned(start, self.last),
+            self.trees,
+        ) {
             Ok(tree) => Ok(Found {
                 tree,
                 height: self.height,
@@ -225,8 +254,7 @@ impl Gathered {
     }
 }
 
-/// The node of a form over parts, from a place to another. Its parts are what the form asks for.
-#[tactic(auto, using(crate::proofs::Heights::low_node))]
+/// The node of a form over parts, from a place to another.
 pub fn node(
     alloc: Global,
     form: Form,
@@ -236,9 +264,6 @@ pub fn node(
 ) -> Result<Found, Refusal>
     requires start { start < 2 ^ 32 }
     requires end { end < 2 ^ 32 }
-    requires low { max (measures.star form) parts.height ≤ 1000 }
-    requires covers { Bounded (measures.star form) 1000 parts.trees parts.height }
-    requires right { is_right form (forest parts.trees) ≡ true }
     ensures node { IfOk result (λ found. found ≡ reading.node form start end parts) }
     ensures refused { IfErr result (λ e. e ≡ refusal.Memory) }
 {
@@ -247,7 +272,7 @@ pub fn node(
     } else {
         parts.height
     };
-    match Tree::new(alloc, form, spanned(start, end), parts.trees) {
+    match Draft::new(alloc, form, spanned(start, end), parts.trees) {
         Ok(tree) => Ok(Found { tree, height }),
         Err(_) => Err(Refusal::Memory),
     }

@@ -1,10 +1,9 @@
 //! Words and literals that are parts.
 
-ghost use Rattle.std.specs.Prelude.{◌≡◌, ◌∷◌, [], IfOk};
+ghost use Rattle.std.specs.Prelude.{◌≡◌, IfOk};
 ghost use Rattle.c_reader.specs.Readers.{Reads};
 ghost use Rattle.c_syntax.specs.Grammar as grammar;
 ghost use Rattle.table_parser.specs.Cursors.{seen};
-ghost use Rattle.table_parser.specs.Founds.{Bounded};
 ghost use Rattle.table_parser.specs.Nests.{read};
 
 use crate::cursor::{Cursor, Seen};
@@ -39,7 +38,7 @@ pub fn is_word(token: Seen) -> bool
 pub fn identifier(cursor: &mut Cursor<'_>) -> Result<Found, Refusal>
     ensures reads { Reads (read 0 grammar.identifier cursor.old.input) result cursor.new.input }
     ensures kept { cursor.new.before ≡ cursor.old.before }
-    ensures bounded { IfOk result (λ x. Bounded 0 0 (x.tree ∷ []) x.height) }
+    ensures low { IfOk result (λ x. x.height ≡ 0) }
 {
     let token = cursor.look();
     if !is_word(token) {
@@ -59,7 +58,7 @@ pub fn identifier(cursor: &mut Cursor<'_>) -> Result<Found, Refusal>
 pub fn declared_identifier(cursor: &mut Cursor<'_>) -> Result<Found, Refusal>
     ensures reads { Reads (read 0 grammar.declared_identifier cursor.old.input) result cursor.new.input }
     ensures kept { cursor.new.before ≡ cursor.old.before }
-    ensures bounded { IfOk result (λ x. Bounded 0 0 (x.tree ∷ []) x.height) }
+    ensures low { IfOk result (λ x. x.height ≡ 0) }
 {
     let token = cursor.look();
     if !is_value(token) {
@@ -79,7 +78,7 @@ pub fn declared_identifier(cursor: &mut Cursor<'_>) -> Result<Found, Refusal>
 pub fn parameter_identifier(cursor: &mut Cursor<'_>) -> Result<Found, Refusal>
     ensures reads { Reads (read 0 grammar.parameter_identifier cursor.old.input) result cursor.new.input }
     ensures kept { cursor.new.before ≡ cursor.old.before }
-    ensures bounded { IfOk result (λ x. Bounded 0 0 (x.tree ∷ []) x.height) }
+    ensures low { IfOk result (λ x. x.height ≡ 0) }
 {
     let found = declared_identifier(cursor)?;
     cursor.happens(Event::DeclareValue)?;
@@ -90,7 +89,7 @@ pub fn parameter_identifier(cursor: &mut Cursor<'_>) -> Result<Found, Refusal>
 pub fn enumerator_identifier(cursor: &mut Cursor<'_>) -> Result<Found, Refusal>
     ensures reads { Reads (read 0 grammar.enumerator_identifier cursor.old.input) result cursor.new.input }
     ensures kept { cursor.new.before ≡ cursor.old.before }
-    ensures bounded { IfOk result (λ x. Bounded 0 0 (x.tree ∷ []) x.height) }
+    ensures low { IfOk result (λ x. x.height ≡ 0) }
 {
     let token = cursor.look();
     if !is_word(token) {
@@ -100,6 +99,22 @@ pub fn enumerator_identifier(cursor: &mut Cursor<'_>) -> Result<Found, Refusal>
         Shape::Word(word) => {
             let found = Found::leaf(Form::Id(word), cursor.place());
             cursor.note();
+            Ok(found)
+        }
+        _ => Err(cursor.refuse()),
+    }
+}
+
+/// A string literal that stands beside others (6.1.4).
+pub fn literal(cursor: &mut Cursor<'_>) -> Result<Found, Refusal>
+    ensures reads { Reads (read 0 grammar.literal cursor.old.input) result cursor.new.input }
+    ensures kept { cursor.new.before ≡ cursor.old.before }
+    ensures low { IfOk result (λ x. x.height ≡ 0) }
+{
+    match cursor.look().shape {
+        Shape::Str(word) => {
+            let found = Found::leaf(Form::Literal(word), cursor.place());
+            cursor.advance();
             Ok(found)
         }
         _ => Err(cursor.refuse()),

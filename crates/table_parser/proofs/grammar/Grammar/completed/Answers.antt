@@ -1,12 +1,8 @@
 use Rattle.std.proofs.Common.{◌∙◌, ap}
 use Rattle.c_syntax.specs.Reading as reading
 use Rattle.table_parser.specs.Nests.{part_of}
-use Rattle.table_parser.proofs.Pushed.{completed_ok, right_parts}
+use Rattle.table_parser.proofs.Pushed.{completed_ok}
 use Rattle.table_parser.proofs.grammar.Grammar.completed.Goals as goal
-
-pub node-requires-clause-right : goal.node-requires-clause-right
-node-requires-clause-right g c = right_parts c.args.self.now.depth (part_of c.args.owner.is_deeper c.args.self.now.places) c.args.owner.own c.args.owner.form c.args.start c.args.done c.args.pieces.now c.args.cursor.now.input
-    c.in_ok-parts.parts c.filled.new.cursor.input c.requires.right c.in_ok-parts.ensures.reads
 
 pub returns-clause-reads : goal.returns-clause-reads
 returns-clause-reads g c = completed_ok c.args.self.now.depth (part_of c.args.owner.is_deeper c.args.self.now.places) c.args.owner.own c.args.owner.form c.args.start c.args.done c.args.pieces.now c.args.cursor.now.input

@@ -1,7 +1,6 @@
-use Rattle.std.proofs.Common.{◌≡◌, ◌<◌, ◌-◌, ◌^◌}
+use Rattle.std.proofs.Common.{◌≡◌, ◌<◌, ◌≤◌, ◌-◌, ◌^◌}
 use Rattle.c_syntax.specs.Reading as reading
-use Rattle.table_parser.specs.Founds.{Bounded}
-use Rattle.table_parser.specs.Nests.{read, part_of, deeper_by}
+use Rattle.table_parser.specs.Nests.{read, part_of}
 use Rattle.table_parser.specs.Turns.{ended_from}
 use Rattle.table_parser.proofs.grammar.Grammar.others_ended.Given as goal
 
@@ -11,7 +10,7 @@ invariant-elements g l = record {
   rest : read l.self.depth (reading.others_ended l.separator l.end (part_of l.part.is_deeper l.self.places l.part.due l.part.least) l.fn.first) l.fn.cursor.input
       ≡ ended_from l.self.depth l.separator l.end (part_of l.part.is_deeper l.self.places l.part.due l.part.least) l.turns l.all l.cursor.input;
   kept : l.cursor.before ≡ l.fn.cursor.before;
-  bounded : Bounded (deeper_by l.part.is_deeper) l.self.depth l.all.trees l.all.height;
+  low : l.all.height ≤ l.self.depth;
   last : l.all.last < 2 ^ 32 - 1;
 }
 

@@ -1,8 +1,14 @@
 //! Spans that count tokens, and the bytes that they become.
 
+ghost use Rattle.std.specs.Prelude.{IfOk};
+ghost use Rattle.draft_trees.specs.Right.{IsRight};
+
+use crate::draft::Draft;
+use crate::drafts::Drafts;
 use crate::placing::placed;
+use c_forms::{Form, GroupForm};
 use c_tokens::{Memory, Punct, Shape, Span, Token, Word};
-use c_trees::{Parts, Tree};
+use c_trees::Tree;
 use std::alloc::Global;
 use std::test::Fail;
 
@@ -62,9 +68,11 @@ static ROWS: &[Row] = &[
 ];
 
 /// A list in a list, each with this span.
-fn nested(alloc: Global, span: Span) -> Result<Tree, Memory> {
-    let inner = Tree::list(alloc, span, Parts::new())?;
-    Tree::list(alloc, span, Parts::one(inner))
+fn nested(alloc: Global, span: Span) -> Result<Draft, Memory>
+    ensures { IfOk result IsRight }
+{
+    let list = Form::Group(GroupForm::List);
+    Draft::new(alloc, list, span, Drafts::one(Draft::leaf(list, span)))
 }
 
 /// Whether a tree and its parts have this span.
@@ -79,7 +87,7 @@ fn stands_at(tree: &Tree, span: Span) -> bool {
 /// The first row that is placed elsewhere.
 fn first_misplaced(alloc: Global) -> Result<Option<Span>, Memory> {
     for row in ROWS {
-        let tree = placed(alloc, nested(alloc, row.counted)?, TOKENS)?;
+        let tree = placed(alloc, &nested(alloc, row.counted)?, TOKENS)?;
         if !stands_at(&tree, row.bytes) {
             return Ok(Some(row.counted));
         }

@@ -36,7 +36,7 @@ use Rattle.c_forms.specs.Equal.{one_form}
 use Rattle.c_trees.specs.Same.{same}
 use Rattle.c_trees.specs.Counts.{count, high, pure}
 use Rattle.c_trees.specs.Valid.{valid}
-use Rattle.placed_trees.specs.Placing.{respanned}
+use Rattle.draft_trees.specs.Placing.{respanned}
 
 -- ---- two values at once
 

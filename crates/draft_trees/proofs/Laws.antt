@@ -10,8 +10,8 @@ use Rattle.c_forms.specs.Equal.{one_form}
 use Rattle.c_trees.specs.Same.{same, same_tree}
 use Rattle.c_trees.specs.Counts.{count_tree, high, high_tree, pure_tree}
 use Rattle.c_trees.specs.Valid.{valid, valid_tree}
-use Rattle.placed_trees.specs.Placing.{respanned, placed, placed_span}
-use Rattle.placed_trees.proofs.Kept.{count_kept, high_kept, pure_kept, right_kept, valid_kept, same_as_before, same_kept, respanned_twice}
+use Rattle.draft_trees.specs.Placing.{respanned, placed, placed_span}
+use Rattle.draft_trees.proofs.Kept.{count_kept, high_kept, pure_kept, right_kept, valid_kept, same_as_before, same_kept, respanned_twice}
 
 -- ---- trees side by side
 

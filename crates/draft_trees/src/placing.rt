@@ -1,38 +1,36 @@
 //! Spans in bytes.
 
 ghost use Rattle.std.specs.Prelude.{◌≡◌, IfOk, map};
-ghost use Rattle.placed_trees.specs.Placing.{bytes_of, placed, placed_span};
+ghost use Rattle.std.specs.List.{All};
+ghost use Rattle.draft_trees.specs.Placing.{bytes_of, placed, placed_span};
+ghost use Rattle.draft_trees.specs.Right.{IsRight};
 
+use crate::draft::Draft;
 use c_tokens::{Memory, Span, Token};
 use c_trees::{Parts, Tree};
 use std::alloc::Global;
 
-/// A tree whose spans count tokens, with the bytes of those tokens as its spans.
+/// The tree of a draft whose spans count tokens, with the bytes of those tokens as its spans.
 /// A node without a token has the empty span where the next token begins.
-pub fn placed(alloc: Global, tree: Tree, tokens: &[Token]) -> Result<Tree, Memory>
-    ensures { IfOk result (λ made. made ≡ placed tokens.now tree) }
-{
-    placed_tree(alloc, &tree, tokens)
-}
-
 #[cycle(placed)]
 #[tactic(auto, using(c_trees::specs::Depths::most_deep, crate::proofs::Laws::placed_low, crate::proofs::Laws::placed_right, crate::proofs::Laws::placed_parts))]
-fn placed_tree(alloc: Global, tree: &Tree, tokens: &[Token]) -> Result<Tree, Memory>
-    ensures { IfOk result (λ made. made ≡ placed tokens.now tree.now) }
+pub fn placed(alloc: Global, draft: &Draft, tokens: &[Token]) -> Result<Tree, Memory>
+    requires { IsRight draft.now }
+    ensures { IfOk result (λ made. made ≡ placed tokens.now draft.now) }
 {
-    let _height = tree.height();
-    let span = placed_span(tree.span(), tokens);
-    let parts = placed_parts(alloc, tree.parts(), tokens)?;
-    Tree::new(alloc, tree.form(), span, parts)
+    let span = placed_span(draft.span(), tokens);
+    let parts = placed_parts(alloc, draft.parts(), tokens)?;
+    Tree::new(alloc, draft.form(), span, parts)
 }
 
 #[cycle(placed)]
-fn placed_parts(alloc: Global, all: &[Tree], tokens: &[Token]) -> Result<Parts, Memory>
+fn placed_parts(alloc: Global, all: &[Draft], tokens: &[Token]) -> Result<Parts, Memory>
+    requires { All IsRight all.now }
     ensures { IfOk result (λ made. made ≡ map (placed tokens.now) all.now) }
 {
     let mut parts = Parts::new();
-    for tree in all {
-        parts.push(alloc, placed_tree(alloc, tree, tokens)?)?;
+    for draft in all {
+        parts.push(alloc, placed(alloc, draft, tokens)?)?;
     }
     Ok(parts)
 }

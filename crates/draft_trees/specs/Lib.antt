@@ -1,0 +1,5 @@
+pub mod Views
+pub mod Few
+pub mod Falls
+pub mod Right
+pub mod Placing
