@@ -47,10 +47,10 @@ module _ (least : ℕ) (a : List Kept) where
       (λ _. fin_fewer body z (past_form f) past Held Held (standing (level f) r) u (fewer least f low) (λ x t k. k) (fin_map body z Held (past_form f) Held r (raised f) u F (λ x t k. k)))
 
   module _ (named other : Reader Standing) (fin_other : (t : State) → Still a t → Finishes body t past Held other (a_word ∷ and_close)) where
-    abbrev either_one : Seen → Reader Standing
+    abbrev pub either_one : Seen → Reader Standing
     either_one y = choose (begins s.TypeName y) named (Change event.Resume other)
 
-    abbrev inside : Reader Standing
+    abbrev pub inside : Reader Standing
     inside = Change event.Aside (Look either_one)
 
     back : (z : State) → Still a z → Still a (happens event.Resume (happens event.Aside z))

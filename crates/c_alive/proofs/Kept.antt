@@ -751,3 +751,7 @@ kept_head n due h least a z y k d = by_sort due h
     by_sort s.ParamDeclarator h = stays_head (below body d) d C (in_place n) (stays_in_place (below body d) d C n) s.ParamDeclarator refl refl refl refl refl least a z y k
     by_sort s.MemberName h = stays_head (below body d) d C (in_place n) (stays_in_place (below body d) d C n) s.MemberName refl refl refl refl refl least a z y k
     by_sort _ h = absurd (cc h)
+
+-- and what stands in parentheses that are added
+pub kept_wrapped : (due : Sort) → is_item due ≡ false → (a : List Kept) (z : State) (y : Shape) → Still a z → Leaves body z y (standing 17 (parenthesized due)) (λ _ t. Still a t)
+kept_wrapped due h a z y k d = stays_wrapped (below body d) d (stays_call (below body d) d (λ n z y. kept_call n z y d)) due h a z y k

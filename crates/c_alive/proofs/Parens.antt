@@ -28,20 +28,20 @@ module _ (due : Sort) (a : List Kept) (out : Classes) (closes : opens_so (past d
   abbrev Held : {A : Type 0} → A → State → Type 0
   Held x t = Still a t
 
-  abbrev closing : Found → Reader Found
+  abbrev pub closing : Found → Reader Found
   closing x = Bind (token close) (λ _. Give (deeper x))
 
   fin_close : (x : Found) (t : State) → Still a t → Finishes body t (none_of out) Held (closing x) and_close
   fin_close x t k = fin_map body t Held (none_of out) Held (token close) (λ _. deeper x) and_close (fin_token body t (none_of out) Held (shape.Punct punct.RightParen) close refl k) (λ _ t k. k)
 
-  way : Way body Held (none_of (past due 1)) (none_of out) Held closing
+  pub way : Way body Held (none_of (past due 1)) (none_of out) Held closing
   way = record { tokens = and_close; opens = opens_if (past due 1) and_close out closes; finishes = λ x t k. fin_close x t k }
 
   pub fin_wrapped : ((z : State) → Still a z → Finishes body z (none_of (past due 1)) Held (body (Of due 1)) (phrase due)) → (z : State) → Still a z → Finishes body z (none_of out) Held (standing 17 (parenthesized due)) (phrase due ++ and_close)
   fin_wrapped F z k = fin_map body z Held (none_of out) Held (parenthesized due) (λ x. record { found = x; level = 17 }) (phrase due ++ and_close)
       (fin_bind body z Held (none_of (past due 1)) (none_of out) Held (Call (Of due 1)) closing (phrase due) and_close (fin_call body z (none_of (past due 1)) Held (Of due 1) (phrase due) (F z k)) (opens_if (past due 1) and_close out closes) (λ x t k. fin_close x t k)) (λ x t k. k)
 
-  kept_one : is_item due ≡ false → (z : State) (y : Shape) → Still a z → Leaves body z y (Call (Of due 1)) Held
+  pub kept_one : is_item due ≡ false → (z : State) (y : Shape) → Still a z → Leaves body z y (Call (Of due 1)) Held
   kept_one h z y k d = leaving_more (below body d) d z y (Call (Of due 1)) (KeptBy (Of due 1) z y) Held (λ x t m. let r = m (ap not h) k.1 in (r.0 ∙ k.0, r.1)) (kept_call (Of due 1) z y d)
 
   pub live_wrapped : is_item due ≡ false → is_reached due 1 ≡ true → (deep : ℕ) → 0 < deep → (z : State) (y : Shape) → Still a z → Live body calls deep z y (none_of out) Held (standing 17 (parenthesized due))

@@ -32,24 +32,24 @@ use Rattle.c_alive.proofs.Entered.{live_tight}
 use Rattle.c_alive.proofs.Called.{calls}
 
 -- the parts of what begins an expression and is no operand
-abbrev a_literal : Sort → ℕ → Bool
+abbrev pub a_literal : Sort → ℕ → Bool
 a_literal s.Literal least = true
 a_literal due least = false
 
-abbrev with_operands : Form → Bool
+abbrev pub with_operands : Form → Bool
 with_operands f = fit_from operand operand_ends s.Exp false (pieces f) (goes_on s.Exp (level f))
 
-abbrev alone : Form → Bool
+abbrev pub alone : Form → Bool
 alone f = fit_from a_literal a_literal s.Exp false (pieces f) (goes_on s.Exp (level f))
 
-abbrev fits_by : Bool → Form → Bool
+abbrev pub fits_by : Bool → Form → Bool
 fits_by b f = (b && with_operands f) || (not b && alone f)
 
-abbrev begun_fits : Option Form → Bool
+abbrev pub begun_fits : Option Form → Bool
 begun_fits (Some f) = fits_by (is_starred f) f
 begun_fits None = true
 
-abbrev begun_starts : State → Shape → Option Form → Bool
+abbrev pub begun_starts : State → Shape → Option Form → Bool
 begun_starts z x (Some f) = not (is_starred f) || begins_with f (pieces f) (class z x)
 begun_starts z x None = true
 
@@ -61,7 +61,7 @@ key_fits : (k : Key) → begun_fits (begun s.Exp (shape.Key k)) ≡ true
 key_fits key.Sizeof = refl
 key_fits _ = refl
 
-shape_fits : (x : Shape) → begun_fits (begun s.Exp x) ≡ true
+pub shape_fits : (x : Shape) → begun_fits (begun s.Exp x) ≡ true
 shape_fits (shape.Punct p) = sign_fits p
 shape_fits (shape.Key k) = key_fits k
 shape_fits _ = refl
@@ -74,7 +74,7 @@ key_starts : (z : State) (k : Key) → begun_starts z (shape.Key k) (begun s.Exp
 key_starts z key.Sizeof = refl
 key_starts z _ = refl
 
-shape_starts : (z : State) (x : Shape) → begun_starts z x (begun s.Exp x) ≡ true
+pub shape_starts : (z : State) (x : Shape) → begun_starts z x (begun s.Exp x) ≡ true
 shape_starts z (shape.Punct p) = sign_starts z p
 shape_starts z (shape.Key k) = key_starts z k
 shape_starts z _ = refl

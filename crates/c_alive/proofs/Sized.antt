@@ -81,10 +81,10 @@ module _ (a : List Kept) where
     abbrev in_parens : ℕ → Reader Standing
     in_parens i = type_or (tight least (form.Exp exp.SizeofType) (of_type i)) (tight least (form.Exp exp.SizeofExp) (sized_opened i))
 
-    abbrev operand_at : ℕ → Seen → Reader Standing
+    abbrev pub operand_at : ℕ → Seen → Reader Standing
     operand_at i x = choose (is_sign punct.LeftParen x) (in_parens i) (tight least (form.Exp exp.SizeofExp) (plainly i))
 
-    fin_operand : (i : ℕ) (z : State) → Still a z → Finishes body z past Held (Look (operand_at i)) (a_word ∷ [])
+    pub fin_operand : (i : ℕ) (z : State) → Still a z → Finishes body z past Held (Look (operand_at i)) (a_word ∷ [])
     fin_operand i z k = fin_look body z past Held (operand_at i) a_word [] (λ n. fin_plainly i z k)
 
     pub live_sized : (inner : Parts) (deep i : ℕ) (z : State) (y : Shape) → Still a z → Live body calls deep z y past Held (sized inner least i)

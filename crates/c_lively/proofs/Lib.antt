@@ -7,3 +7,6 @@ pub mod Parameters
 pub mod Statements
 pub mod BlockItems
 pub mod Alive
+pub mod Alone
+pub mod Firsts
+pub mod AfterSizeof
