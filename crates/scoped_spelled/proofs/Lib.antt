@@ -1,3 +1,6 @@
 mod Runs
 mod Ready
 mod Rows
+mod Standing
+mod Steps
+mod Calm

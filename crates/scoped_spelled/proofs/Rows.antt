@@ -103,7 +103,7 @@ all_plain due empty p j = refl
 all_plain due (tree f sp ps rest) p j = let a = left_of (is_plain f && pure ps) (pure rest) p in
     rw (joins_plain f due (left_of (is_plain f) (pure ps) a) (left_of (joins f due) (all_join due rest) j), all_plain due rest (right_of (is_plain f && pure ps) (pure rest) p) (right_of (joins f due) (all_join due rest) j)) refl
 
-stand_by : (b : Bool) (due : Sort) (es : Forest) → pure es ≡ true → (if b then all_join due es else all_stand due es) ≡ true → all_stand due es ≡ true
+pub stand_by : (b : Bool) (due : Sort) (es : Forest) → pure es ≡ true → (if b then all_join due es else all_stand due es) ≡ true → all_stand due es ≡ true
 stand_by true due es p e = all_plain due es p e
 stand_by false due es p e = e
 
@@ -128,7 +128,7 @@ after_one : (own due : Sort) (least : ℕ) (ps : List Piece) → is_fine own (On
 after_one own s.InnerDeclarator least ps h = right_of (serves s.Declarator own) (is_fine own ps) h
 after_one own due least ps h = h
 
-list_form : (g : Form) → is_plain g ≡ true → stands g s.List ≡ true → g ≡ the_list
+pub list_form : (g : Form) → is_plain g ≡ true → stands g s.List ≡ true → g ≡ the_list
 list_form (form.Group group.List) p e = refl
 list_form (form.Group g) p e = absurd (cc e)
 list_form (form.Hole h) p e = absurd (cc p)
@@ -173,13 +173,13 @@ pub record Fine (k : ℕ) (ts : Forest) : Type 0 where
   pub deep : deep ts ≤ k
 
 -- elements of a list
-list_stand : (r : Repetition) (due : Sort) (es : Forest) → elements r due es ≡ true → (if is_spliced r then all_join due es else all_stand due es) ≡ true
+pub list_stand : (r : Repetition) (due : Sort) (es : Forest) → elements r due es ≡ true → (if is_spliced r then all_join due es else all_stand due es) ≡ true
 list_stand r due es e = left_of (if is_spliced r then all_join due es else all_stand due es) (nat_lt (least_of r) (number es + 1)) (left_of ((if is_spliced r then all_join due es else all_stand due es) && nat_lt (least_of r) (number es + 1)) (not (is_single r) || nat_lt (number es) 2) e)
 
-list_least : (r : Repetition) (due : Sort) (es : Forest) → elements r due es ≡ true → nat_lt (least_of r) (number es + 1) ≡ true
+pub list_least : (r : Repetition) (due : Sort) (es : Forest) → elements r due es ≡ true → nat_lt (least_of r) (number es + 1) ≡ true
 list_least r due es e = right_of (if is_spliced r then all_join due es else all_stand due es) (nat_lt (least_of r) (number es + 1)) (left_of ((if is_spliced r then all_join due es else all_stand due es) && nat_lt (least_of r) (number es + 1)) (not (is_single r) || nat_lt (number es) 2) e)
 
-list_most : (r : Repetition) (due : Sort) (es : Forest) → elements r due es ≡ true → (not (is_single r) || nat_lt (number es) 2) ≡ true
+pub list_most : (r : Repetition) (due : Sort) (es : Forest) → elements r due es ≡ true → (not (is_single r) || nat_lt (number es) 2) ≡ true
 list_most r due es e = right_of ((if is_spliced r then all_join due es else all_stand due es) && nat_lt (least_of r) (number es + 1)) (not (is_single r) || nat_lt (number es) 2) e
 
 first_fit : (lows : Sort → Bool) (k : ℕ) (due : Sort) (f : Form) (sp : Span) (ps rest : Forest) → lows due ≡ true → stands f due ≡ true → Fine k (tree f sp ps rest) → Fit lows k due (the_tree f sp ps)
