@@ -4,3 +4,5 @@ mod Rows
 mod Standing
 mod Steps
 mod Calm
+mod Expressions
+mod Heads

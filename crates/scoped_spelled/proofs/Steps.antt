@@ -45,7 +45,7 @@ one_end m n e = cc e
 pub later : (xs ys : List Event) (fs m gs : List Frame) → settled xs fs ≡ Scoped m → settled (xs ++ ys) fs ≡ Scoped gs → settled ys m ≡ Scoped gs
 later xs ys fs m gs r e = let c = split_at xs ys fs gs e in subst (λ n. settled ys n ≡ Scoped gs) (one_end c.0 m (sym c.1.0 ∙ r)) c.1.1
 
-pub append_nil : (xs : List Event) → (xs ++ []) ≡ xs
+pub append_nil : {A : Type 0} (xs : List A) → (xs ++ []) ≡ xs
 append_nil [] = refl
 append_nil (a ∷ xs) = ap (λ l. a ∷ l) (append_nil xs)
 
