@@ -1,12 +1,12 @@
 -- Rows whose parts stand where no declaration is begun.
-use Rattle.std.proofs.Common.{◌≡◌, refl, ap, sym, subst, ◌∙◌, ◌⊎◌, inl, inr, ℕ, Bool, true, false, not, ◌&&◌, ◌||◌, if◌then◌else◌, List, [], ◌∷◌, ◌++◌, append_assoc, Option, Some, None, nat_lt}
+use Rattle.std.proofs.Common.{◌≡◌, refl, ap, sym, subst, ◌∙◌, ◌⊎◌, inl, inr, ℕ, Bool, true, false, ◌&&◌, ◌||◌, List, [], ◌∷◌, ◌++◌, append_assoc, Option, Some, None}
 use Rattle.c_tokens.specs.declared.span.Span.{Span}
 use Rattle.c_tokens.specs.declared.token.Shape.{Shape}
 use Rattle.c_tokens.specs.declared.class.Class.{Class}
 use Rattle.c_forms.specs.declared.pieces.Sort.{Sort}
 use Rattle.c_forms.specs.declared.pieces.Sort.TheVariants as s
 use Rattle.c_forms.specs.declared.pieces.Repetition.{Repetition}
-use Rattle.c_forms.specs.declared.pieces.Repetition.TheVariants.{Optional, Greedy, Due, All, Any, Many, Spliced, Ended}
+use Rattle.c_forms.specs.declared.pieces.Repetition.TheVariants.{Optional, Many, Spliced, Ended}
 use Rattle.c_forms.specs.declared.pieces.Piece.{Piece}
 use Rattle.c_forms.specs.declared.pieces.Piece.TheVariants.{Token, Maybe, Own, TypeTokens, KindName, One, Group, Rest, Anything, Then}
 use Rattle.c_forms.specs.declared.forms.Form.{Form}
@@ -17,7 +17,7 @@ use Rattle.c_forms.specs.declared.forms.StmtForm.TheVariants as stmt
 use Rattle.c_forms.specs.declared.forms.TemplateForm.TheVariants as template
 use Rattle.c_forms.specs.declared.forms.GroupForm.TheVariants as group
 use Rattle.c_forms.specs.Forests.{Plain, Forest, empty, tree}
-use Rattle.c_forms.specs.Fits.{fits, elements, all_stand, all_join, is_spliced, is_list_of}
+use Rattle.c_forms.specs.Fits.{fits, elements, all_stand, is_spliced, is_list_of}
 use Rattle.c_forms.specs.Measures.{is_plain, ends_as_last_part}
 use Rattle.c_forms.specs.Opens.{last_opens}
 use Rattle.c_forms.specs.Places.{stands}

@@ -1,5 +1,5 @@
 -- Expressions, initializers and statements that declare nothing are ready where their events hold.
-use Rattle.std.proofs.Common.{◌≡◌, refl, ap, sym, subst, ◌∙◌, ℕ, Bool, true, false, not, ◌&&◌, ◌||◌, List, [], ◌∷◌, ◌++◌, append_assoc, Option, Some, None, nat_eq, arith}
+use Rattle.std.proofs.Common.{◌≡◌, refl, ap, sym, ◌∙◌, ℕ, Bool, true, false, not, ◌&&◌, List, [], ◌∷◌, ◌++◌, arith}
 use Rattle.c_tokens.specs.declared.span.Span.{Span}
 use Rattle.c_tokens.specs.declared.token.Word.{Word}
 use Rattle.c_tokens.specs.declared.token.Shape.{Shape}
@@ -37,11 +37,11 @@ use Rattle.scopes.specs.declared.event.Event.{Event}
 use Rattle.scopes.specs.Events.{events_of}
 use Rattle.scopes.specs.Settling.{Scoped, settled}
 use Rattle.spelled_scopes.specs.Meant.{frames}
-use Rattle.spelled_trees.proofs.Parts.{left_of, right_of}
+use Rattle.spelled_trees.proofs.Parts.{right_of}
 use Rattle.scoped_spelled.proofs.Ready.{the_tree, IsOwn}
-use Rattle.scoped_spelled.proofs.Standing.{begins_else, asks, Holds, Ran, IsCalm, Calms}
-use Rattle.scoped_spelled.proofs.Steps.{earlier, append_nil, must_value, after_all}
-use Rattle.scoped_spelled.proofs.Calm.{Here, first_holds, goes_on, regrouped, at_end, RowReady, are_calm, has_own, Closed, closed, calm_row, part}
+use Rattle.scoped_spelled.proofs.Standing.{begins_else, asks, Ran, IsCalm, Calms}
+use Rattle.scoped_spelled.proofs.Steps.{append_nil, must_value, after_all}
+use Rattle.scoped_spelled.proofs.Calm.{Here, first_holds, goes_on, at_end, RowReady, are_calm, has_own, Closed, closed, calm_row, part}
 
 -- ---- tokens
 
@@ -107,15 +107,22 @@ cast_row own sp (tree g gp qs (tree f fp rs empty)) i after t h =
     let E : Plain = the_tree f fp rs in
     let es : List Event = events_of naming.Nothing T in
     let ds : List Event = events_of naming.Nothing E in
-    let H : Here i.state (es ++ (ds ++ [])) h.1.0 i.state.aside = record { free = h.0; holds = ap (λ l. settled l (frames i.state.entries)) (sym (append_nil (es ++ (ds ++ [])))) ∙ h.1.1; aside = refl } in
-    (refl, part own s.TypeName T (turned (happens event.Aside) (step i)) _ _ refl (
-      (refl, first_holds i.state es (ds ++ []) h.1.0 i.state.aside H),
-      (refl, λ j d. let G = resumed i.state j.state es (ds ++ []) h.1.0 i.state.aside H d.made in
-        (refl, part own s.Exp E (step (turned (happens event.Resume) j)) _ _ refl (
-          (G.free, first_holds (happens event.Resume j.state) ds [] h.1.0 i.state.aside G),
-          (tt, λ m e. calms_end (the_tree (form.Exp exp.Cast) sp (tree g gp qs (tree f fp rs empty))) i.state m.state h.1.0 h.1.1 (goes_on (happens event.Resume j.state) m.state ds [] h.1.0 i.state.aside G e.made.0 e.made.1)),
-        ))),
-    ))
+    let H : Here i.state (es ++ (ds ++ [])) h.1.0 i.state.aside = record { free = h.0; holds = ap (λ l. settled l (frames i.state.entries)) (sym (append_nil (es ++ (ds ++ [])))) ∙ h.1.1; aside = refl } in (
+      refl,
+      part own s.TypeName T (turned (happens event.Aside) (step i)) _ _ refl (
+        (refl, first_holds i.state es (ds ++ []) h.1.0 i.state.aside H),
+        (
+          refl,
+          λ j d. let G = resumed i.state j.state es (ds ++ []) h.1.0 i.state.aside H d.made in (
+            refl,
+            part own s.Exp E (step (turned (happens event.Resume) j)) _ _ refl (
+              (G.free, first_holds (happens event.Resume j.state) ds [] h.1.0 i.state.aside G),
+              (tt, λ m e. calms_end (the_tree (form.Exp exp.Cast) sp (tree g gp qs (tree f fp rs empty))) i.state m.state h.1.0 h.1.1 (goes_on (happens event.Resume j.state) m.state ds [] h.1.0 i.state.aside G e.made.0 e.made.1)),
+            ),
+          ),
+        ),
+      ),
+    )
 
 sizeof_row : (own : Sort) (sp : Span) (ts : Forest) (i : Spot) (after : List Shape) → fits (pieces (form.Exp exp.SizeofType)) ts ≡ true → IsCalm (the_tree (form.Exp exp.SizeofType) sp ts) i.state
     → RowReady own (form.Exp exp.SizeofType) Usual (pieces (form.Exp exp.SizeofType)) ts i after (λ j. Calms (the_tree (form.Exp exp.SizeofType) sp ts) i.state j.state)
@@ -124,11 +131,13 @@ sizeof_row own sp (tree g gp qs (tree f fp rs rest)) i after t h = absurd (never
 sizeof_row own sp (tree g gp qs empty) i after t h =
     let T : Plain = the_tree g gp qs in
     let es : List Event = events_of naming.Nothing T in
-    let H : Here i.state (es ++ []) h.1.0 i.state.aside = record { free = h.0; holds = ap (λ l. settled l (frames i.state.entries)) (sym (append_nil (es ++ []))) ∙ h.1.1; aside = refl } in
-    (refl, part own s.TypeName T (turned (happens event.Aside) (step (step i))) _ _ refl (
-      (refl, first_holds i.state es [] h.1.0 i.state.aside H),
-      (refl, λ j d. (refl, calms_end (the_tree (form.Exp exp.SizeofType) sp (tree g gp qs empty)) i.state (happens event.Resume j.state) h.1.0 h.1.1 (resumed i.state j.state es [] h.1.0 i.state.aside H d.made))),
-    ))
+    let H : Here i.state (es ++ []) h.1.0 i.state.aside = record { free = h.0; holds = ap (λ l. settled l (frames i.state.entries)) (sym (append_nil (es ++ []))) ∙ h.1.1; aside = refl } in (
+      refl,
+      part own s.TypeName T (turned (happens event.Aside) (step (step i))) _ _ refl (
+        (refl, first_holds i.state es [] h.1.0 i.state.aside H),
+        (refl, λ j d. (refl, calms_end (the_tree (form.Exp exp.SizeofType) sp (tree g gp qs empty)) i.state (happens event.Resume j.state) h.1.0 h.1.1 (resumed i.state j.state es [] h.1.0 i.state.aside H d.made))),
+      ),
+    )
 
 binary_calm : (o : BinaryOperator) → are_calm false (pieces (form.Exp (exp.Binary o))) ≡ true
 binary_calm operator.LogicalOr = refl

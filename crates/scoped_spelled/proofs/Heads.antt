@@ -1,5 +1,5 @@
 -- The first token of a tree.
-use Rattle.std.proofs.Common.{◌≡◌, refl, ap, sym, subst, ◌∙◌, ℕ, Bool, true, false, not, ◌&&◌, ◌||◌, if◌then◌else◌, List, [], ◌∷◌, ◌++◌, append_assoc, Option, Some, None, nat_lt}
+use Rattle.std.proofs.Common.{◌≡◌, refl, sym, subst, ◌∙◌, ℕ, Bool, true, false, ◌&&◌, if◌then◌else◌, List, [], ◌∷◌, ◌++◌, append_assoc, Option, Some, None, nat_lt}
 use Rattle.c_tokens.specs.declared.span.Span.{Span}
 use Rattle.c_tokens.specs.declared.token.Word.{Word}
 use Rattle.c_tokens.specs.declared.token.Shape.{Shape}
@@ -32,16 +32,13 @@ use Rattle.c_forms.specs.declared.forms.Form.{Form}
 use Rattle.c_forms.specs.declared.forms.Form.TheVariants as form
 use Rattle.c_forms.specs.declared.forms.ExpForm.{ExpForm}
 use Rattle.c_forms.specs.declared.forms.ExpForm.TheVariants as exp
-use Rattle.c_forms.specs.declared.forms.SpecForm.{SpecForm}
 use Rattle.c_forms.specs.declared.forms.SpecForm.TheVariants as spec
-use Rattle.c_forms.specs.declared.forms.StmtForm.{StmtForm}
 use Rattle.c_forms.specs.declared.forms.StmtForm.TheVariants as stmt
-use Rattle.c_forms.specs.declared.forms.ItemForm.TheVariants as item
 use Rattle.c_forms.specs.declared.forms.TemplateForm.TheVariants as template
 use Rattle.c_forms.specs.declared.forms.GroupForm.TheVariants as group
 use Rattle.c_forms.specs.declared.rules.Rule.{Rule}
 use Rattle.c_forms.specs.Forests.{Plain, Forest, empty, tree}
-use Rattle.c_forms.specs.Fits.{fits, all_stand, elements, is_list_of}
+use Rattle.c_forms.specs.Fits.{fits, all_stand, elements}
 use Rattle.c_forms.specs.Measures.{is_plain, level, pieces}
 use Rattle.c_forms.specs.Places.{stands}
 use Rattle.c_forms.specs.Rules.{is_right, is_nothing, among_rules}
@@ -56,8 +53,7 @@ use Rattle.scopes.specs.declared.event.Event.TheVariants.{Must}
 use Rattle.scopes.specs.Events.{events_of}
 use Rattle.spelled_trees.proofs.Parts.{left_of, right_of}
 use Rattle.scoped_spelled.proofs.Ready.{the_tree, placed, others}
-use Rattle.scoped_spelled.proofs.Standing.{asks, begins_else}
-use Rattle.scoped_spelled.proofs.Expressions.{never}
+use Rattle.scoped_spelled.proofs.Standing.{begins_else}
 
 -- ---- validity
 

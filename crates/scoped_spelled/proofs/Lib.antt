@@ -6,3 +6,4 @@ mod Steps
 mod Calm
 mod Expressions
 mod Heads
+mod Statements

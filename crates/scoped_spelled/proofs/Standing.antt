@@ -6,7 +6,6 @@ use Rattle.c_tokens.specs.declared.token.Shape.TheVariants as shape
 use Rattle.c_tokens.specs.declared.token.Key.TheVariants as key
 use Rattle.c_forms.specs.declared.pieces.Sort.{Sort}
 use Rattle.c_forms.specs.declared.pieces.Sort.TheVariants as s
-use Rattle.c_forms.specs.declared.forms.Form.{Form}
 use Rattle.c_forms.specs.declared.forms.Form.TheVariants as form
 use Rattle.c_forms.specs.Forests.{Plain, Forest, empty, tree}
 use Rattle.c_forms.specs.Opens.{ends_open}
