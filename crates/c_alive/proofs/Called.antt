@@ -4,7 +4,7 @@ use Rattle.c_tokens.specs.declared.token.Shape.{Shape}
 use Rattle.c_forms.specs.declared.pieces.Sort.{Sort}
 use Rattle.c_forms.specs.declared.pieces.Sort.TheVariants as s
 use Rattle.c_forms.specs.Sets.{goes_on}
-use Rattle.c_reader.specs.States.{State, Kept, is_function}
+use Rattle.c_reader.specs.States.{State, Kept, Near, Other, is_function}
 use Rattle.c_reader.specs.Readers.{Rule, Of, Opened, Found, Call}
 use Rattle.c_reader.proofs.Sets.{contrary}
 use Rattle.c_reader.proofs.Phrases.{Tokens, Finishes, fin_call, fin_map}
@@ -34,13 +34,21 @@ abbrev pub names : Rule → Bool
 names (Of s.Declarator least) = true
 names _ = false
 
+abbrev pub is_other : Near → Bool
+is_other Other = true
+is_other near = false
+
+-- among the same declarations around, and a function's declarator is due, next to whose name nothing else stands
+abbrev pub Due : List Kept → State → Type 0
+Due a z = (z.aside ≡ a) × ((z.kept.is_function_due ≡ true) × (is_other z.kept.near ≡ false))
+
 -- Each keeps the declarations around it, and a declarator that is due is a function's.
 abbrev pub GivesBy : Bool → Rule → List Kept → State → Type 0
 GivesBy false n a t = Still a t
-GivesBy true n a t = ((t.aside ≡ a) × (t.kept.is_function_due ≡ true)) × (names n ≡ true → is_function t ≡ true)
+GivesBy true n a t = Due a t × (names n ≡ true → is_function t ≡ true)
 
 abbrev pub Good : Rule → State → Shape → Type 0
-Good n z y = (is_called n ≡ true) × ((at_reached n ≡ true) × (z.kept.is_function_due ≡ true → is_due n ≡ true))
+Good n z y = (is_called n ≡ true) × ((at_reached n ≡ true) × (z.kept.is_function_due ≡ true → (is_due n ≡ true) × (is_other z.kept.near ≡ false)))
 
 abbrev pub Gives : Rule → State → Found → State → Type 0
 Gives n z x t = GivesBy z.kept.is_function_due n z.aside t

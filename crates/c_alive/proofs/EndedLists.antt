@@ -102,7 +102,7 @@ module _ (a : List Kept) (due : Sort) (least : ℕ) (element : Reader Found) (se
         (leaves_anyhow body z y element) (record { tokens = []; opens = λ x q. q; finishes = λ x t k. fin_after t g x k }) (λ x t y _ place. tt)
 
     leaves_element : (z : State) (y : Shape) (g : Gathered) → Still a z → Leaves body z y (element_after element g) Held
-    leaves_element z y g k d = stays_element (below body d) d element g (λ a z y k. leaves a z y k d) a z y k
+    leaves_element z y g k d = stays_element (below body d) d Still element g (λ a z y k. leaves a z y k d) a z y k
 
     live_turn : (g : Gathered) (z : State) (x : Shape) → Still a z → Live body calls deep z x there Turns (ended_turn separator end_token element g)
     live_turn g z x k = live_choose body calls deep z x there Turns (is_class separator (seen z x)) (Next (Look (by_end g))) (Give (Last g))

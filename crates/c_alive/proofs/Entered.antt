@@ -75,7 +75,7 @@ module _ (least : ℕ) (a : List Kept) where
 
   live_cast : (deep : ℕ) → 0 < deep → (i : ℕ) (z : State) (y : Shape) → Within true a z → Live body calls deep z y past Held (cast i)
   live_cast deep room i z y w = live_tight deep (form.Exp exp.Cast) (completed called s.Exp (form.Exp exp.Cast) i nothing (after_paren (pieces (form.Exp exp.Cast)))) z y
-      (live_completed a (past_form (form.Exp exp.Cast)) called s.Exp (form.Exp exp.Cast) i nothing (after_paren (pieces (form.Exp exp.Cast))) calls deep z y
+      (live_completed (Still a) (past_form (form.Exp exp.Cast)) called s.Exp (form.Exp exp.Cast) i nothing (after_paren (pieces (form.Exp exp.Cast))) calls deep z y
       (live_pieces calls deep called s.Exp (form.Exp exp.Cast) operand operand_ends (operands_ending true) (operands_able deep room true) (goes_on s.Exp 14) true Usual (after_paren (pieces (form.Exp exp.Cast))) cast_fits a z y w))
 
   pub live_entered : (deep i : ℕ) (z : State) (y : Shape) → Still a z → Live body calls deep z y past Held (entered least i)

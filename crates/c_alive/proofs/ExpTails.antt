@@ -55,10 +55,10 @@ module _ (least i : ℕ) (a : List Kept) where
   live_tail deep y z x None h o k e = absurd (cc e)
   live_tail deep y z x (Some f) h o k e = let low = not_true (nat_lt (level f) least) (both (not (nat_lt (level f) least)) (not (nat_lt y.level (left_level (pieces f))) && may_follow s.Exp z y.found.tree f) e).0 in let part = after_part called s.Exp f i (deeper y.found) in (
     begun_fewer body z x (none_of (goes_on s.Exp (level f))) (none_of (goes_on s.Exp least)) Held Held (standing (level f) part) (fewer least f low) (λ x t k. k)
-        (begun_map a (none_of (goes_on s.Exp (level f))) z x part (λ x. record { found = x; level = level f }) (begun_completed a (none_of (goes_on s.Exp (level f))) (parts_of f called) s.Exp f i (one (deeper y.found)) (after_first (pieces f)) z x (begun_after f z x h o k))),
+        (begun_map (Still a) (none_of (goes_on s.Exp (level f))) z x part (λ x. record { found = x; level = level f }) (begun_completed (Still a) (none_of (goes_on s.Exp (level f))) (parts_of f called) s.Exp f i (one (deeper y.found)) (after_first (pieces f)) z x (begun_after f z x h o k))),
     live_fewer body calls (suc y.found.height) z x (none_of (goes_on s.Exp (level f))) (none_of (goes_on s.Exp least)) Held (standing (level f) part) (fewer least f low)
         (live_map body calls (suc y.found.height) z x Held (none_of (goes_on s.Exp (level f))) (none_of (goes_on s.Exp (level f))) Held part (λ x. record { found = x; level = level f }) (λ x q. q) (λ x t k. k)
-        (live_completed a (none_of (goes_on s.Exp (level f))) (parts_of f called) s.Exp f i (one (deeper y.found)) (after_first (pieces f)) calls (suc y.found.height) z x (live_after (suc y.found.height) (omega arith) f z x h k))),
+        (live_completed (Still a) (none_of (goes_on s.Exp (level f))) (parts_of f called) s.Exp f i (one (deeper y.found)) (after_first (pieces f)) calls (suc y.found.height) z x (live_after (suc y.found.height) (omega arith) f z x h k))),
   )
 
   live_shape : (deep : ℕ) (y : Standing) (z : State) (x : Shape) → Still a z → is_tail s.Exp least z y (continued_by s.Exp x) ≡ true → Live body calls deep z x (none_of (goes_on s.Exp least)) Held (tail_by s.Exp i y (continued_by s.Exp x))

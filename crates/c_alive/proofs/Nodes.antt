@@ -4,27 +4,26 @@ use Rattle.c_tokens.specs.declared.token.Shape.{Shape}
 use Rattle.c_forms.specs.declared.pieces.Sort.{Sort}
 use Rattle.c_forms.specs.declared.pieces.Piece.{Piece}
 use Rattle.c_forms.specs.declared.forms.Form.{Form}
-use Rattle.c_reader.specs.States.{State, Kept}
+use Rattle.c_reader.specs.States.{State}
 use Rattle.c_reader.specs.Readers.{Reader, Found, Give, Bind, Ask}
 use Rattle.c_reader.proofs.Leaves.{anyhow, leaves_anyhow}
 use Rattle.c_reader.proofs.Phrases.{Tokens, Finishes, Begun, Way, fin_give, fin_ask, fin_last, begun_bind}
 use Rattle.c_reader.proofs.Live.{Calls, Live, live_bind}
 use Rattle.c_syntax.specs.Reading.{Usual, Parts, Listed, node, joined, pieces_in, completed}
 use Rattle.c_syntax.specs.Grammar.{body}
-use Rattle.c_alive.proofs.Kept.{Still}
 
 -- with nothing after the last part
-pub begun_map : {A B : Type 0} (a : List Kept) (Q : Tokens) (z : State) (y : Shape) (r : Reader B) (f : B → A) → Begun body z y Q (λ _ t. Still a t) r → Begun body z y Q (λ _ t. Still a t) (Bind r (λ b. Give (f b)))
-begun_map a Q z y r f R = begun_bind body z y (λ _ t. Still a t) Q Q (λ _ t. Still a t) r (λ b. Give (f b)) R (record { tokens = []; opens = λ x q. q; finishes = λ b t k. fin_give body t Q (λ _ t. Still a t) (f b) k })
+pub begun_map : {A B : Type 0} (S : State → Type 0) (Q : Tokens) (z : State) (y : Shape) (r : Reader B) (f : B → A) → Begun body z y Q (λ _ t. S t) r → Begun body z y Q (λ _ t. S t) (Bind r (λ b. Give (f b)))
+begun_map S Q z y r f R = begun_bind body z y (λ _ t. S t) Q Q (λ _ t. S t) r (λ b. Give (f b)) R (record { tokens = []; opens = λ x q. q; finishes = λ b t k. fin_give body t Q (λ _ t. S t) (f b) k })
 
-module _ (a : List Kept) (Q : Tokens) (part : Parts) (own : Sort) (f : Form) (i : ℕ) (done : Listed) (ps : List Piece) where
+module _ (S : State → Type 0) (Q : Tokens) (part : Parts) (own : Sort) (f : Form) (i : ℕ) (done : Listed) (ps : List Piece) where
   abbrev Held : {A : Type 0} → A → State → Type 0
-  Held x t = Still a t
+  Held x t = S t
 
   abbrev closing : Listed → Reader Found
   closing g = Ask (λ j. Give (node f i j.place (joined done g)))
 
-  fin_closing : (t : State) (g : Listed) → Still a t → Finishes body t Q Held (closing g) []
+  fin_closing : (t : State) (g : Listed) → S t → Finishes body t Q Held (closing g) []
   fin_closing t g k = fin_ask body t Q Held (λ j. Give (node f i j.place (joined done g))) [] (λ place. fin_give body t Q Held (node f i place (joined done g)) k)
 
   way : Way body Held Q Q Held closing

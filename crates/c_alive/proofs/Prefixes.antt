@@ -113,14 +113,14 @@ module _ (a : List Kept) where
   live_charged : (n deep place : ℕ) (f : Form) (z : State) (y : Shape) → Still a z → (b : Bool) → fits_by b f ≡ true → (not b || begins_with f (pieces f) (class z y)) ≡ true
       → Live body calls deep z y (beyond f) Held (charged b (completed (parts_by b (in_place (suc n))) s.Exp f place nothing (pieces f)))
   live_charged n deep place f z y k true h o = let fits = plainly (either (with_operands f) false h) in (
-    begun_completed a (beyond f) called s.Exp f place nothing (pieces f) z y (begun_pieces called s.Exp f operand operand_ends (operands_ending true) (goes_on s.Exp (level f)) false Usual (pieces f) fits a z y k o),
-    live_completed a (beyond f) called s.Exp f place nothing (pieces f) calls 1 z y (live_pieces calls 1 called s.Exp f operand operand_ends (operands_ending true) (operands_able 1 (omega arith) true) (goes_on s.Exp (level f)) false Usual (pieces f) fits a z y k),
+    begun_completed (Still a) (beyond f) called s.Exp f place nothing (pieces f) z y (begun_pieces called s.Exp f operand operand_ends (operands_ending true) (goes_on s.Exp (level f)) false Usual (pieces f) fits a z y k o),
+    live_completed (Still a) (beyond f) called s.Exp f place nothing (pieces f) calls 1 z y (live_pieces calls 1 called s.Exp f operand operand_ends (operands_ending true) (operands_able 1 (omega arith) true) (goes_on s.Exp (level f)) false Usual (pieces f) fits a z y k),
   )
     where
       plainly : (with_operands f ≡ true) ⊎ (false ≡ true) → with_operands f ≡ true
       plainly (inl e) = e
       plainly (inr e) = absurd (cc e)
-  live_charged n deep place f z y k false h o = live_completed a (beyond f) (in_place (suc n)) s.Exp f place nothing (pieces f) calls deep z y
+  live_charged n deep place f z y k false h o = live_completed (Still a) (beyond f) (in_place (suc n)) s.Exp f place nothing (pieces f) calls deep z y
       (live_pieces calls deep (in_place (suc n)) s.Exp f a_literal a_literal (literals_end n) (literals_live deep n) (goes_on s.Exp (level f)) false Usual (pieces f) h a z y k)
 
   pub live_begun : (n least deep : ℕ) (z : State) (y : Shape) → Still a z → Live body calls deep z y (none_of (goes_on s.Exp least)) Held (begun_by (in_place (suc n)) least (begun s.Exp y))

@@ -165,7 +165,7 @@ module _ (part : Parts) (own : Sort) (f : Form) (done : Known) (E : Ending part 
       let o = both (group_ends r due) (sound r due) g.1 in
       fin_bind body z (Stays b a) (none_of (group_past r due least)) (none_of out) (Ended_so a) (gathered r due (part due least) before)
       (λ g. Bind (pieces_in part own f (before_by (has_none g.1.trees)) ps) (λ h. Give (with_first (list_from g.0 g.1) h))) (group_phrase r due) (pieces_phrase own ps)
-      (fin_within b (none_of (group_past r due least)) (gathered r due (part due least) before) (group_phrase r due) (λ a z k. fin_gathered a due least (part due least) (E.firm due least) r before (λ e. E.ends due least (if_needed (needs r) (done due least) g.0 e) a) j.0 o.1 o.0 z k) a z w)
+      (fin_within b (none_of (group_past r due least)) (gathered r due (part due least) before) (group_phrase r due) (λ a z k. fin_gathered (Still a) due least (part due least) (E.firm due least) r before (λ e. E.ends due least (if_needed (needs r) (done due least) g.0 e) a) j.0 o.1 o.0 z k) a z w)
       (opens_if (group_past r due least) (pieces_phrase own ps) out m.0)
       (λ g t n. fin_map body t (Ended_so a) (none_of out) (Ended_so a) (pieces_in part own f (before_by (has_none g.1.trees)) ps) (λ h. with_first (list_from g.0 g.1) h) (pieces_phrase own ps) (fin_pieces b (before_by (has_none g.1.trees)) ps m.1 a t n) (λ h t k. k))
   fin_pieces b before (One due least ∷ ps) h a z w =
@@ -224,7 +224,7 @@ module _ (calls : Calls) (deep : ℕ) (part : Parts) (own : Sort) (f : Form) (li
       (λ g. Bind (choose g.1.is_ended (pieces_in part own f Usual ps) (pieces_in part own f Usual (p ∷ ps))) (λ h. Give (with_first (list_from g.0 g.1) h)))
       (live_unended calls deep b (none_of (group_past (Ended c d) due least)) (gathered (Ended c d) due (part due least) before)
       (λ a z y k. live_listed a due least (part due least) c d o.1 (E.ends due least l.1 a) o.0 calls deep (L.lives due least l.0 a) (L.leaves due least l.0) before z y k) a z y w)
-      (leaves_within b (gathered (Ended c d) due (part due least) before) (λ a z y k e. stays_gathered (below body e) e (Ended c d) due (part due least) before (λ a z y k. L.leaves due least l.0 a z y k e) a z y k) a z y w)
+      (leaves_within b (gathered (Ended c d) due (part due least) before) (λ a z y k e. stays_gathered (below body e) e Still (Ended c d) due (part due least) before (λ a z y k. L.leaves due least l.0 a z y k e) a z y k) a z y w)
       (record {
         tokens = pieces_phrase own (p ∷ ps);
         opens = opens_if (group_past (Ended c d) due least) (pieces_phrase own (p ∷ ps)) out m.0;
@@ -245,8 +245,8 @@ module _ (calls : Calls) (deep : ℕ) (part : Parts) (own : Sort) (f : Form) (li
       live_bind body calls deep z y (Stays b a) (Stays b a) (none_of (group_past r due least)) (none_of out) (Ends_so a) (gathered r due (part due least) before)
       (λ g. Bind (pieces_in part own f (before_by (has_none g.1.trees)) ps) (λ h. Give (with_first (list_from g.0 g.1) h)))
       (live_within calls deep b (none_of (group_past r due least)) (gathered r due (part due least) before)
-      (λ a z y k. live_gathered a due least (part due least) (E.firm due least) (E.ends due least l.1 a) calls deep (L.lives due least l.0 a) (L.leaves due least l.0 a) r before j.0 o.1 z y k) a z y w)
-      (leaves_within b (gathered r due (part due least) before) (λ a z y k e. stays_gathered (below body e) e r due (part due least) before (λ a z y k. L.leaves due least l.0 a z y k e) a z y k) a z y w)
+      (λ a z y k. live_gathered (Still a) due least (part due least) (E.firm due least) (E.ends due least l.1 a) calls deep (L.lives due least l.0 a) (L.leaves due least l.0 a) r before j.0 o.1 z y k) a z y w)
+      (leaves_within b (gathered r due (part due least) before) (λ a z y k e. stays_gathered (below body e) e Still r due (part due least) before (λ a z y k. L.leaves due least l.0 a z y k e) a z y k) a z y w)
       (record {
         tokens = pieces_phrase own ps;
         opens = opens_if (group_past r due least) (pieces_phrase own ps) out m.0;

@@ -41,7 +41,7 @@ module _ (a : List Kept) where
   unfolding opened
   fin_opened z k = fin_ask body z past_size Held (λ i. Bind first_paren (λ y. climb s.Exp 15 (i.place - 1) y)) (a_word ∷ and_close) (λ place. fin_last body z Held past_size past_size Held first_paren (λ y. climb s.Exp 15 (place - 1) y) (a_word ∷ and_close)
       (fin_look body z past_size Held (λ x. choose (begins s.Exp x) (Fits 0 (standing 17 (parenthesized s.Exp))) Refuse) a_word and_close (λ n. fin_fits body z past_size Held 0 (standing 17 (parenthesized s.Exp)) (a_word ∷ and_close) (fin_wrapped s.Exp a (goes_on s.Exp 15) refl (in_body s.Exp 1 refl a) z k)))
-      (λ x q. q) (λ y t k. fin_climb s.Exp 15 (place - 1) a past_size (λ y z x q. exp_over 15 z y x q) t y k))
+      (λ x q. q) (λ y t k. fin_climb s.Exp 15 (place - 1) (Still a) past_size (λ y z x q. exp_over 15 z y x q) t y k))
 
   abbrev from_opened : ℕ → Found → Reader Found
   from_opened i x = Ask (λ j. Give (node (form.Exp exp.SizeofExp) i j.place (one (deeper x))))
@@ -67,15 +67,15 @@ module _ (a : List Kept) where
     of_type i = completed called s.Exp (form.Exp exp.SizeofType) i nothing (after_paren (pieces (form.Exp exp.SizeofType)))
 
     fin_plainly : (i : ℕ) (z : State) → Still a z → Finishes body z past Held (tight least (form.Exp exp.SizeofExp) (plainly i)) (a_word ∷ [])
-    fin_plainly i z k = fin_tight least a (form.Exp exp.SizeofExp) (plainly i) z (a_word ∷ []) low (fin_completed a past_size called s.Exp (form.Exp exp.SizeofExp) i nothing (after_first (pieces (form.Exp exp.SizeofExp))) z (a_word ∷ [])
+    fin_plainly i z k = fin_tight least a (form.Exp exp.SizeofExp) (plainly i) z (a_word ∷ []) low (fin_completed (Still a) past_size called s.Exp (form.Exp exp.SizeofExp) i nothing (after_first (pieces (form.Exp exp.SizeofExp))) z (a_word ∷ [])
         (fin_pieces called s.Exp (form.Exp exp.SizeofExp) operand_ends (operands_ending true) (goes_on s.Exp 15) false Usual (after_first (pieces (form.Exp exp.SizeofExp))) refl a z k))
 
     live_plainly : (deep : ℕ) → 0 < deep → (i : ℕ) (z : State) (y : Shape) → Still a z → Live body calls deep z y past Held (tight least (form.Exp exp.SizeofExp) (plainly i))
-    live_plainly deep room i z y k = live_tight least a deep (form.Exp exp.SizeofExp) (plainly i) z y (live_completed a past_size called s.Exp (form.Exp exp.SizeofExp) i nothing (after_first (pieces (form.Exp exp.SizeofExp))) calls deep z y
+    live_plainly deep room i z y k = live_tight least a deep (form.Exp exp.SizeofExp) (plainly i) z y (live_completed (Still a) past_size called s.Exp (form.Exp exp.SizeofExp) i nothing (after_first (pieces (form.Exp exp.SizeofExp))) calls deep z y
         (live_pieces calls deep called s.Exp (form.Exp exp.SizeofExp) operand operand_ends (operands_ending true) (operands_able deep room true) (goes_on s.Exp 15) false Usual (after_first (pieces (form.Exp exp.SizeofExp))) refl a z y k))
 
     live_of_type : (deep : ℕ) → 0 < deep → (i : ℕ) (z : State) (y : Shape) → Within true a z → Live body calls deep z y past Held (tight least (form.Exp exp.SizeofType) (of_type i))
-    live_of_type deep room i z y w = live_tight least a deep (form.Exp exp.SizeofType) (of_type i) z y (live_completed a past_size called s.Exp (form.Exp exp.SizeofType) i nothing (after_paren (pieces (form.Exp exp.SizeofType))) calls deep z y
+    live_of_type deep room i z y w = live_tight least a deep (form.Exp exp.SizeofType) (of_type i) z y (live_completed (Still a) past_size called s.Exp (form.Exp exp.SizeofType) i nothing (after_paren (pieces (form.Exp exp.SizeofType))) calls deep z y
         (live_pieces calls deep called s.Exp (form.Exp exp.SizeofType) operand operand_ends (operands_ending true) (operands_able deep room true) (goes_on s.Exp 15) true Usual (after_paren (pieces (form.Exp exp.SizeofType))) sizeof_type_fits a z y w))
 
     abbrev in_parens : ℕ → Reader Standing

@@ -55,4 +55,4 @@ pub fin_expression : (inner : Parts) (least : ℕ) → nat_lt 17 least ≡ false
 unfolding expression
 fin_expression inner least low a z k = fin_ask body z (none_of (goes_on s.Exp least)) (λ _ t. Still a t) (λ i. Bind (primary inner least) (λ y. climb s.Exp least i.place y)) (a_word ∷ [])
     (λ place. fin_last body z (λ _ t. Still a t) (none_of (goes_on s.Exp least)) (none_of (goes_on s.Exp least)) (λ _ t. Still a t) (primary inner least) (λ y. climb s.Exp least place y) (a_word ∷ []) (fin_primary inner a z k (none_of (goes_on s.Exp least)) least low) (λ x q. q)
-    (λ y t m. fin_climb s.Exp least place a (none_of (goes_on s.Exp least)) (λ y z x q. exp_over least z y x q) t y m))
+    (λ y t m. fin_climb s.Exp least place (Still a) (none_of (goes_on s.Exp least)) (λ y z x q. exp_over least z y x q) t y m))

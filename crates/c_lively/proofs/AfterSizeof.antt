@@ -31,7 +31,7 @@ module _ (a : List Kept) where
   begun_called z y e k = begun_call body z y (none_of (goes_on s.Exp 1)) Held (Of s.Exp 1) (begun_expression a 7 z y e k)
 
   begun_wrapped : (z : State) (y : Shape) → begins s.Exp (seen z y) ≡ true → Still a z → Begun body z y beyond Held (standing 17 (parenthesized s.Exp))
-  begun_wrapped z y e k = begun_map a beyond z y (parenthesized s.Exp) (λ x. record { found = x; level = 17 })
+  begun_wrapped z y e k = begun_map (Still a) beyond z y (parenthesized s.Exp) (λ x. record { found = x; level = 17 })
       (begun_bind body z y Held (none_of (goes_on s.Exp 1)) beyond Held (Call (Of s.Exp 1)) (closing s.Exp a (goes_on s.Exp 15) refl) (begun_called z y e k) (way s.Exp a (goes_on s.Exp 15) refl))
 
   abbrev by_start : Seen → Reader Standing
@@ -45,5 +45,5 @@ module _ (a : List Kept) where
   unfolding opened
   live_opened deep z y k = λ place. live_bind body calls deep z y Held Held beyond beyond Held (Look by_start) (λ y. climb s.Exp 15 (place - 1) y)
       (live_choose body calls deep z y beyond Held (begins s.Exp (seen z y)) (Fits 0 (standing 17 (parenthesized s.Exp))) Refuse (λ e. (begun_wrapped z y e k, live_wrapped s.Exp a (goes_on s.Exp 15) refl refl refl 1 (omega arith) z y k)) (λ _. tt))
-      (leaves_first z y k) (record { tokens = []; opens = λ x q. q; finishes = λ y t k. fin_climb s.Exp 15 (place - 1) a beyond (λ y z x q. exp_over 15 z y x q) t y k })
+      (leaves_first z y k) (record { tokens = []; opens = λ x q. q; finishes = λ y t k. fin_climb s.Exp 15 (place - 1) (Still a) beyond (λ y z x q. exp_over 15 z y x q) t y k })
       (λ y t x k. live_climbing 15 (place - 1) a deep t x y k)

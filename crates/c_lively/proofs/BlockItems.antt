@@ -62,13 +62,13 @@ module _ (a : List Kept) where
     -- a declaration whose first specifier was read
     live_type_led : (i : ℕ) (x : Seen) (z : State) (y : Shape) → Still a z → Live body calls deep z y beyond Held (type_led inner i x)
     live_type_led i x z y k = live_bind body calls deep (happens event.SoleType z) y Held Held between beyond Held (specs i x) (after_specs i)
-        (live_more a s.Spec 0 (inner s.Spec 0) (E.firm s.Spec 0) (λ z k. E.ends s.Spec 0 refl a z k) calls deep (λ z y k. L.lives s.Spec 0 refl a z y k) (λ z y k. L.leaves s.Spec 0 refl a z y k)
+        (live_more (Still a) s.Spec 0 (inner s.Spec 0) (E.firm s.Spec 0) (λ z k. E.ends s.Spec 0 refl a z k) calls deep (λ z y k. L.lives s.Spec 0 refl a z y k) (λ z y k. L.leaves s.Spec 0 refl a z y k)
         All (bounded_group All s.Spec (inner s.Spec 0) refl refl (E.firm s.Spec 0)) (first_spec i x) (happens event.SoleType z) y k)
-        (λ d. stays_others (below body d) d All s.Spec (inner s.Spec 0) (first_spec i x) (λ a z y k. L.leaves s.Spec 0 refl a z y k d) a (happens event.SoleType z) y k)
+        (λ d. stays_others (below body d) d Still All s.Spec (inner s.Spec 0) (first_spec i x) (λ a z y k. L.leaves s.Spec 0 refl a z y k d) a (happens event.SoleType z) y k)
         (record {
           tokens = shape.Punct punct.Semicolon ∷ [];
           opens = opens_if (group_past All s.Spec 0) (shape.Punct punct.Semicolon ∷ []) (past s.BlockItem 0) refl;
-          finishes = λ g t k. fin_completed a beyond inner s.Decl form.Decl i (one (list_from i g)) (after_first (pieces form.Decl)) t (shape.Punct punct.Semicolon ∷ []) (fin_pieces inner s.Decl form.Decl (reads 5) E (past s.BlockItem 0) false Usual (after_first (pieces form.Decl)) refl a t k);
+          finishes = λ g t k. fin_completed (Still a) beyond inner s.Decl form.Decl i (one (list_from i g)) (after_first (pieces form.Decl)) t (shape.Punct punct.Semicolon ∷ []) (fin_pieces inner s.Decl form.Decl (reads 5) E (past s.BlockItem 0) false Usual (after_first (pieces form.Decl)) refl a t k);
         })
         (λ g t x k. live_rest deep inner (reads 5) E L s.Decl form.Decl (past s.BlockItem 0) a refl (after_first (pieces form.Decl)) refl i (one (list_from i g)) t x k)
 

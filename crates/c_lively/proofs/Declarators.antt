@@ -99,7 +99,7 @@ module _ (due : Sort) (a : List Kept) where
   module _ (F : Fitting due) where
     fin_nameless : (i : ℕ) (z : State) → Still a z → Finishes body z beyond Held (nameless_function due i) and_close
     fin_nameless i z k = fin_map body z Held beyond Held (nameless_node i) (λ x. record { found = x; level = level function_of }) and_close
-        (fin_completed a beyond called due function_of i (one (deeper (absent_at i))) parameters_after z and_close
+        (fin_completed (Still a) beyond called due function_of i (one (deeper (absent_at i))) parameters_after z and_close
         (subst (λ u. Finishes body z beyond Held (pieces_in called due function_of Usual parameters_after) u) F.closed (fin_pieces called due function_of met calling (goes_on due 1) false Usual parameters_after F.nameless_ends a z k))) (λ x t k. k)
 
     fin_start : (i : ℕ) (z : State) → Still a z → Finishes body z beyond Held (Look (by_start due i)) and_close
@@ -107,7 +107,7 @@ module _ (due : Sort) (a : List Kept) where
 
     live_nameless : (i : ℕ) (z : State) (y : Shape) → Still a z → Live body calls 1 z y beyond Held (nameless_function due i)
     live_nameless i z y k = live_map body calls 1 z y Held beyond beyond Held (nameless_node i) (λ x. record { found = x; level = level function_of }) (λ x q. q) (λ x t k. k)
-        (live_completed a beyond called due function_of i (one (deeper (absent_at i))) parameters_after calls 1 z y (live_pieces calls 1 called due function_of met met calling (callable 1 (omega arith)) (goes_on due 1) false Usual parameters_after F.nameless a z y k))
+        (live_completed (Still a) beyond called due function_of i (one (deeper (absent_at i))) parameters_after calls 1 z y (live_pieces calls 1 called due function_of met met calling (callable 1 (omega arith)) (goes_on due 1) false Usual parameters_after F.nameless a z y k))
 
   live_start : (F : Fitting due) → ((z : State) (y : Shape) → Still a z → Live body calls 1 z y beyond Held (standing 17 (parenthesized due))) → (i : ℕ) (z : State) (y : Shape) → Still a z → Live body calls 1 z y beyond Held (Look (by_start due i))
   live_start F W i z y k = live_choose body calls 1 z y beyond Held (begins_parenthesized (seen z y)) (standing 17 (parenthesized due)) (nameless_function due i) (λ _. W z y k) (λ _. live_nameless F i z y k)
@@ -179,9 +179,9 @@ module _ (deep : ℕ) (n : ℕ) (E : Ending (in_place n) (reads 1)) (L : Able ca
   live_tail : (i : ℕ) (y : Standing) (z : State) (x : Shape) (o : Option Form) → tail_so due z x o ≡ true → Still a z → Live body calls deep z x after Keeps (tail_by due i y o)
   live_tail i y z x None h k = tt
   live_tail i y z x (Some f) h k = let r = both (fit_from met met due false (after_first (pieces f)) (goes_on due 1)) (begins_with f (after_first (pieces f)) (class z x)) h in let part = after_part called due f i (deeper y.found) in (
-    begun_map a after z x part (λ x. record { found = x; level = level f }) (begun_completed a after (parts_of f called) due f i (one (deeper y.found)) (after_first (pieces f)) z x
+    begun_map (Still a) after z x part (λ x. record { found = x; level = level f }) (begun_completed (Still a) after (parts_of f called) due f i (one (deeper y.found)) (after_first (pieces f)) z x
         (begun_pieces (parts_of f called) due f met met (calling_by (is_starred f)) (goes_on due 1) false Usual (after_first (pieces f)) r.0 a z x k r.1)),
-    live_map body calls (suc y.found.height) z x Keeps after after Keeps part (λ x. record { found = x; level = level f }) (λ x q. q) (λ x t k. k) (live_completed a after (parts_of f called) due f i (one (deeper y.found)) (after_first (pieces f)) calls (suc y.found.height) z x
+    live_map body calls (suc y.found.height) z x Keeps after after Keeps part (λ x. record { found = x; level = level f }) (λ x q. q) (λ x t k. k) (live_completed (Still a) after (parts_of f called) due f i (one (deeper y.found)) (after_first (pieces f)) calls (suc y.found.height) z x
         (live_pieces calls (suc y.found.height) (parts_of f called) due f met met (calling_by (is_starred f)) (callable_by (suc y.found.height) (omega arith) (is_starred f)) (goes_on due 1) false Usual (after_first (pieces f)) r.0 a z x k)),
   )
 
@@ -192,4 +192,4 @@ module _ (deep : ℕ) (n : ℕ) (E : Ending (in_place n) (reads 1)) (L : Able ca
   pub live_declarator : (z : State) (y : Shape) → Still a z → Live body calls deep z y after Keeps (declarator_of (in_place n) due 1)
   unfolding declarator_of
   live_declarator z y k = λ place. live_bind body calls deep z y Keeps Keeps after after Keeps (declarator_head (in_place n) due 1) (λ y. climb due 1 place y) (live_head z y k) (kept_head n due is_one 1 a z y k)
-      (record { tokens = []; opens = λ x q. q; finishes = λ y t k. fin_climb due 1 place a after F.over t y k }) (λ y t x k. live_climb due 1 place a after F.over calls deep (live_tails place) t x y k)
+      (record { tokens = []; opens = λ x q. q; finishes = λ y t k. fin_climb due 1 place (Still a) after F.over t y k }) (λ y t x k. live_climb due 1 place a after F.over calls deep (live_tails place) t x y k)

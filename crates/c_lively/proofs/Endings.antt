@@ -54,7 +54,7 @@ pub fin_whole : (inner : Parts) (own : Sort) (f : Form) (done : Known) → Endin
 unfolding whole
 fin_whole inner own f done E out h a z k = fin_ask body z (none_of out) (λ _ t. Still a t) (λ i. charged (is_starred f) (completed (parts_of f inner) own f i.place nothing (pieces f))) (pieces_phrase own (pieces f))
     (λ place. fin_charged (is_starred f) z (none_of out) (λ _ t. Still a t) (completed (parts_of f inner) own f place nothing (pieces f)) (pieces_phrase own (pieces f))
-    (fin_completed a (none_of out) (parts_of f inner) own f place nothing (pieces f) z (pieces_phrase own (pieces f)) (fin_pieces (parts_of f inner) own f done E out false Usual (pieces f) h a z k)))
+    (fin_completed (Still a) (none_of out) (parts_of f inner) own f place nothing (pieces f) z (pieces_phrase own (pieces f)) (fin_pieces (parts_of f inner) own f done E out false Usual (pieces f) h a z k)))
 
 -- ---- specifiers: a qualifier
 
@@ -64,10 +64,10 @@ a_const = shape.Key key.Const
 abbrev const_form : Form
 const_form = form.Spec (spec.Qualifier qualifier.Const)
 
-fin_const : (inner : Parts) (own : Sort) (Q : Tokens) (a : List Kept) (z : State) → Still a z → Finishes body z Q (λ _ t. Still a t) (whole inner own const_form) (a_const ∷ [])
+fin_const : (inner : Parts) (own : Sort) (Q : Tokens) (S : State → Type 0) (z : State) → S z → Finishes body z Q (λ _ t. S t) (whole inner own const_form) (a_const ∷ [])
 unfolding whole pieces_in
-fin_const inner own Q a z k = fin_ask body z Q (λ _ t. Still a t) (λ i. completed inner own const_form i.place nothing (pieces const_form)) (a_const ∷ []) (λ place. fin_completed a Q inner own const_form place nothing (pieces const_form) z (a_const ∷ [])
-    (fin_last body z (λ _ t. Still a t) Q Q (λ _ t. Still a t) (Pick (λ x. only (has (held_class const_form) x.class))) (λ _. Give nothing) (a_const ∷ []) (fin_pick body z Q (λ _ t. Still a t) (λ x. only (has (held_class const_form) x.class)) a_const (λ m. tt) (λ m. refl) (λ m. k)) (λ x q. q) (λ b t k. fin_give body t Q (λ _ t. Still a t) nothing k)))
+fin_const inner own Q S z k = fin_ask body z Q (λ _ t. S t) (λ i. completed inner own const_form i.place nothing (pieces const_form)) (a_const ∷ []) (λ place. fin_completed S Q inner own const_form place nothing (pieces const_form) z (a_const ∷ [])
+    (fin_last body z (λ _ t. S t) Q Q (λ _ t. S t) (Pick (λ x. only (has (held_class const_form) x.class))) (λ _. Give nothing) (a_const ∷ []) (fin_pick body z Q (λ _ t. S t) (λ x. only (has (held_class const_form) x.class)) a_const (λ m. tt) (λ m. refl) (λ m. k)) (λ x q. q) (λ b t k. fin_give body t Q (λ _ t. S t) nothing k)))
 
 abbrev pub is_spec : Sort → Bool
 is_spec s.Spec = true
@@ -75,12 +75,12 @@ is_spec s.PlainSpec = true
 is_spec s.Qualifier = true
 is_spec due = false
 
-fin_specifier : (inner : Parts) (due : Sort) → is_spec due ≡ true → (Q : Tokens) (a : List Kept) (z : State) → Still a z → Finishes body z Q (λ _ t. Still a t) (specifier inner due) (a_const ∷ [])
+pub fin_specifier : (inner : Parts) (due : Sort) → is_spec due ≡ true → (Q : Tokens) (S : State → Type 0) (z : State) → S z → Finishes body z Q (λ _ t. S t) (specifier inner due) (a_const ∷ [])
 unfolding specifier
-fin_specifier inner s.Spec h Q a z k = fin_ask body z Q (λ _ t. Still a t) _ (a_const ∷ []) (λ place. fin_look body z Q (λ _ t. Still a t) _ a_const [] (λ n. fin_const inner s.Spec Q a z k))
-fin_specifier inner s.PlainSpec h Q a z k = fin_ask body z Q (λ _ t. Still a t) _ (a_const ∷ []) (λ place. fin_look body z Q (λ _ t. Still a t) _ a_const [] (λ n. fin_const inner s.PlainSpec Q a z k))
-fin_specifier inner s.Qualifier h Q a z k = fin_ask body z Q (λ _ t. Still a t) _ (a_const ∷ []) (λ place. fin_look body z Q (λ _ t. Still a t) _ a_const [] (λ n. fin_const inner s.Qualifier Q a z k))
-fin_specifier inner _ h Q a z k = absurd (cc h)
+fin_specifier inner s.Spec h Q S z k = fin_ask body z Q (λ _ t. S t) _ (a_const ∷ []) (λ place. fin_look body z Q (λ _ t. S t) _ a_const [] (λ n. fin_const inner s.Spec Q S z k))
+fin_specifier inner s.PlainSpec h Q S z k = fin_ask body z Q (λ _ t. S t) _ (a_const ∷ []) (λ place. fin_look body z Q (λ _ t. S t) _ a_const [] (λ n. fin_const inner s.PlainSpec Q S z k))
+fin_specifier inner s.Qualifier h Q S z k = fin_ask body z Q (λ _ t. S t) _ (a_const ∷ []) (λ place. fin_look body z Q (λ _ t. S t) _ a_const [] (λ n. fin_const inner s.Qualifier Q S z k))
+fin_specifier inner _ h Q S z k = absurd (cc h)
 
 -- ---- declarators: a name, or nothing
 
@@ -180,7 +180,7 @@ module _ (inner : Parts) (due : Sort) (least : ℕ) (a : List Kept) where
   pub fin_after_head : is_declarator due ≡ true → (u : _) → ((z : State) → Still a z → Finishes body z beyond Held (declarator_head inner due least) u) → (z : State) → Still a z → Finishes body z beyond Held (declarator_of inner due least) u
   unfolding declarator_of
   fin_after_head h u F z k = fin_ask body z beyond Held (λ i. Bind (declarator_head inner due least) (λ y. climb due least i.place y)) u (λ place. fin_last body z Held beyond beyond Held (declarator_head inner due least) (λ y. climb due least place y) u (F z k) (λ x q. q)
-      (λ y t k. fin_climb due least place a beyond (λ y z x q. declarators_over due least h y z x q) t y k))
+      (λ y t k. fin_climb due least place (Still a) beyond (λ y z x q. declarators_over due least h y z x q) t y k))
 
 fin_named : (inner : Parts) (least : ℕ) (a : List Kept) → Ending inner (reads 1) → (z : State) → Still a z → Finishes body z (none_of (goes_on s.Declarator least)) (λ _ t. Still a t) (declarator_head inner s.Declarator least) (a_word ∷ [])
 unfolding declarator_head
@@ -269,9 +269,9 @@ module _ (m : ℕ) (E : Ending (in_place m) (reads m)) where
   ends_at s.ParameterId least le h a z k = fin_parameter_id (none_of []) a z k
   ends_at s.EnumeratorId least le h a z k = fin_enumerator a (none_of []) z k
   ends_at s.Literal least le h a z k = fin_literal a z k
-  ends_at s.Spec least le h a z k = fin_specifier (in_place m) s.Spec refl (none_of (past s.Spec least)) a z k
-  ends_at s.PlainSpec least le h a z k = fin_specifier (in_place m) s.PlainSpec refl (none_of (past s.PlainSpec least)) a z k
-  ends_at s.Qualifier least le h a z k = fin_specifier (in_place m) s.Qualifier refl (none_of (past s.Qualifier least)) a z k
+  ends_at s.Spec least le h a z k = fin_specifier (in_place m) s.Spec refl (none_of (past s.Spec least)) (Still a) z k
+  ends_at s.PlainSpec least le h a z k = fin_specifier (in_place m) s.PlainSpec refl (none_of (past s.PlainSpec least)) (Still a) z k
+  ends_at s.Qualifier least le h a z k = fin_specifier (in_place m) s.Qualifier refl (none_of (past s.Qualifier least)) (Still a) z k
   ends_at s.TypeName least le h a z k = fin_whole (in_place m) s.TypeName form.TypeName (reads 2) (few 2 (omega (arith, le))) (past s.TypeName 0) refl a z k
   ends_at s.Member least le h a z k = fin_whole (in_place m) s.Member form.Member (reads 4) (few 4 (omega (arith, le))) (past s.Member 0) refl a z k
   ends_at s.Enumerator least le h a z k = fin_whole (in_place m) s.Enumerator form.Enumerator (reads 3) (few 3 (omega (arith, le))) (past s.Enumerator 0) refl a z k

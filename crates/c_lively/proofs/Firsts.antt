@@ -83,7 +83,7 @@ module _ (a : List Kept) where
   fin_starred : (inner : Parts) (f : Form) (place : ℕ) (y : Shape) (z : State) (b : Bool) → b ≡ true → with_operands f ≡ true → begins_with f (pieces f) (written y) ≡ true → ((n : ℕ) → renewed n y ≡ y) → Still a z
       → Finishes body z (none_of (goes_on s.Exp (level f))) Held (charged b (completed (parts_by b inner) s.Exp f place nothing (pieces f))) (y ∷ phrase_after (pieces f))
   fin_starred inner f place y z true e h o same k = fin_fits body z (none_of (goes_on s.Exp (level f))) Held 0 (completed called s.Exp f place nothing (pieces f)) (y ∷ phrase_after (pieces f))
-      (fin_completed a (none_of (goes_on s.Exp (level f))) called s.Exp f place nothing (pieces f) z (y ∷ phrase_after (pieces f)) (fin_begun f (pieces f) (goes_on s.Exp (level f)) y z same h o k))
+      (fin_completed (Still a) (none_of (goes_on s.Exp (level f))) called s.Exp f place nothing (pieces f) z (y ∷ phrase_after (pieces f)) (fin_begun f (pieces f) (goes_on s.Exp (level f)) y z same h o k))
   fin_starred inner f place y z false e h o same k = absurd (cc e)
 
   abbrev phrase_opt : Option Form → List Shape
@@ -213,7 +213,7 @@ module _ (a : List Kept) where
     fin_text z k = fin_fewer body z (none_of []) beyond Held Held literal (phrase s.Literal) (λ x q. none_within [] (goes_on s.Exp 1) x refl q) (λ x t k. k) (fin_literal a z k)
 
     fin_texts : (g : Gathered) (z : State) → Still a z → Finishes body z beyond Held (others texts s.Literal text g) []
-    fin_texts g z k = fin_others a beyond text (phrase s.Literal) fin_text texts s.Literal (bounded_group texts s.Literal text refl refl (firm_in_place (suc n) s.Literal 0))
+    fin_texts g z k = fin_others (Still a) beyond text (phrase s.Literal) fin_text texts s.Literal (bounded_group texts s.Literal text refl refl (firm_in_place (suc n) s.Literal 0))
         (λ z x q. quiet (goes_on_with texts (element_starts texts s.Literal)) z x (none_within (goes_on_with texts (element_starts texts s.Literal)) (goes_on s.Exp 1) x refl q)) z g k
 
     abbrev then_one : Gathered → Found → Reader Gathered
@@ -246,7 +246,7 @@ module _ (a : List Kept) where
 
     fin_climbing : (i : ℕ) (y : Standing) (t : State) → Still a t → Finishes body t beyond Held (climbing i y) []
     unfolding climbing
-    fin_climbing i y t k = fin_climb s.Exp 1 i a beyond (λ y z x q. exp_over 1 z y x q) t y k
+    fin_climbing i y t k = fin_climb s.Exp 1 i (Still a) beyond (λ y z x q. exp_over 1 z y x q) t y k
 
     by_leaf : (z : State) (y : Shape) → Alone z y beyond Held (primary inner_parts 1) → Begun body z y beyond Held (expression inner_parts 1)
     unfolding expression climbing

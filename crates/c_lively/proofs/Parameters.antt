@@ -68,7 +68,7 @@ module _ (deep : ℕ) (inner : Parts) (E : Ending inner (reads 3)) (L : Able cal
   fin_all i g t k = fin_ask body t beyond Held (all i g) [] (λ place. fin_give body t beyond Held (node (form.Params params.Typed) i place (one (list_from g.0 g.1))) k)
 
   leaves_listed : (z : State) (y : Shape) → Still a z → Leaves body z y listed Held
-  leaves_listed z y k d = stays_gathered (below body d) d list_kind s.Param (inner s.Param 0) Usual (λ a z y k. L.leaves s.Param 0 refl a z y k d) a z y k
+  leaves_listed z y k d = stays_gathered (below body d) d Still list_kind s.Param (inner s.Param 0) Usual (λ a z y k. L.leaves s.Param 0 refl a z y k d) a z y k
 
   live_listing : (z : State) (y : Shape) → Still a z → Live body calls deep z y between Unended listed
   live_listing z y k = live_listed a s.Param 0 (inner s.Param 0) (sign punct.Comma) (sign punct.Ellipsis) refl (λ z k. E.ends s.Param 0 refl a z k) refl calls deep (λ z y k. L.lives s.Param 0 refl a z y k) (λ a z y k. L.leaves s.Param 0 refl a z y k) Usual z y k

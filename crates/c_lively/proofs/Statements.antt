@@ -72,12 +72,12 @@ module _ (a : List Kept) where
 
   pub fin_label : (i : ℕ) (x : Found) (z : State) → Still a z → Finishes body z beyond Held (label i x) colon_and_empty
   fin_label i x z k = fin_fits body z beyond Held 0 (after_part called s.Stmt labelled i (deeper x)) colon_and_empty
-      (fin_completed a beyond called s.Stmt labelled i (one (deeper x)) after_name z colon_and_empty (fin_pieces called s.Stmt labelled met calling (past s.Stmt 0) false Usual after_name refl a z k))
+      (fin_completed (Still a) beyond called s.Stmt labelled i (one (deeper x)) after_name z colon_and_empty (fin_pieces called s.Stmt labelled met calling (past s.Stmt 0) false Usual after_name refl a z k))
 
   pub live_label : (deep i : ℕ) (x : Found) (z : State) (y : Shape) → is_sign punct.Colon (seen z y) ≡ true → Still a z → Live body calls deep z y beyond Held (label i x)
   live_label deep i x z y o k = (
-    begun_completed a beyond called s.Stmt labelled i (one (deeper x)) after_name z y (begun_pieces called s.Stmt labelled met met calling (past s.Stmt 0) false Usual after_name refl a z y k o),
-    live_completed a beyond called s.Stmt labelled i (one (deeper x)) after_name calls 1 z y (live_pieces calls 1 called s.Stmt labelled met met calling (callable 1 (omega arith)) (past s.Stmt 0) false Usual after_name refl a z y k),
+    begun_completed (Still a) beyond called s.Stmt labelled i (one (deeper x)) after_name z y (begun_pieces called s.Stmt labelled met met calling (past s.Stmt 0) false Usual after_name refl a z y k o),
+    live_completed (Still a) beyond called s.Stmt labelled i (one (deeper x)) after_name calls 1 z y (live_pieces calls 1 called s.Stmt labelled met met calling (callable 1 (omega arith)) (past s.Stmt 0) false Usual after_name refl a z y k),
   )
 
   module _ (deep : ℕ) (inner : Parts) (E : Ending inner (reads 2)) (L : Able calls deep inner (reads 2)) where
@@ -95,7 +95,7 @@ module _ (a : List Kept) where
         (record {
           tokens = shape.Punct punct.Semicolon ∷ [];
           opens = opens_if (goes_on s.Exp 1) (shape.Punct punct.Semicolon ∷ []) (past s.Stmt 0) refl;
-          finishes = λ y t k. fin_completed a beyond inner s.Stmt express i (one y) (after_first (pieces express)) t (shape.Punct punct.Semicolon ∷ []) (fin_pieces inner s.Stmt express (reads 2) E (past s.Stmt 0) false Usual (after_first (pieces express)) refl a t k);
+          finishes = λ y t k. fin_completed (Still a) beyond inner s.Stmt express i (one y) (after_first (pieces express)) t (shape.Punct punct.Semicolon ∷ []) (fin_pieces inner s.Stmt express (reads 2) E (past s.Stmt 0) false Usual (after_first (pieces express)) refl a t k);
         })
         (λ y t x k. live_rest deep inner (reads 2) E L s.Stmt express (past s.Stmt 0) a refl (after_first (pieces express)) refl i (one y) t x k)
 

@@ -61,10 +61,10 @@ module _ (deep : ℕ) (inner : Parts) (known : Known) (E : Ending inner known) (
   live_charged : (place : ℕ) (z : State) (y : Shape) → Still a z → (b : Bool) → fit_from (known_by b known) (known_by b known) own false (pieces f) out ≡ true → (not b || begins_with f (pieces f) (class z y)) ≡ true
       → Live body calls deep z y (none_of out) Held (charged b (completed (parts_by b inner) own f place nothing (pieces f)))
   live_charged place z y k true h o = (
-    begun_completed a (none_of out) called own f place nothing (pieces f) z y (begun_pieces called own f met met calling out false Usual (pieces f) h a z y k o),
-    live_completed a (none_of out) called own f place nothing (pieces f) calls 1 z y (live_pieces calls 1 called own f met met calling (callable 1 (omega arith)) out false Usual (pieces f) h a z y k),
+    begun_completed (Still a) (none_of out) called own f place nothing (pieces f) z y (begun_pieces called own f met met calling out false Usual (pieces f) h a z y k o),
+    live_completed (Still a) (none_of out) called own f place nothing (pieces f) calls 1 z y (live_pieces calls 1 called own f met met calling (callable 1 (omega arith)) out false Usual (pieces f) h a z y k),
   )
-  live_charged place z y k false h o = live_completed a (none_of out) inner own f place nothing (pieces f) calls deep z y (live_pieces calls deep inner own f known known E L out false Usual (pieces f) h a z y k)
+  live_charged place z y k false h o = live_completed (Still a) (none_of out) inner own f place nothing (pieces f) calls deep z y (live_pieces calls deep inner own f known known E L out false Usual (pieces f) h a z y k)
 
   pub live_whole : fits known own f (pieces f) out ≡ true → (z : State) (y : Shape) → starts_so f z y ≡ true → Still a z → Live body calls deep z y (none_of out) Held (whole inner own f)
   unfolding whole
@@ -72,4 +72,4 @@ module _ (deep : ℕ) (inner : Parts) (known : Known) (E : Ending inner known) (
 
   -- after the first parts of one that counts for none
   pub live_rest : is_starred f ≡ false → (ps : List Piece) → fit_from known known own false ps out ≡ true → (i : ℕ) (done : Listed) (z : State) (y : Shape) → Still a z → Live body calls deep z y (none_of out) Held (completed inner own f i done ps)
-  live_rest low ps h i done z y k = live_completed a (none_of out) inner own f i done ps calls deep z y (live_pieces calls deep inner own f known known E L out false Usual ps h a z y k)
+  live_rest low ps h i done z y k = live_completed (Still a) (none_of out) inner own f i done ps calls deep z y (live_pieces calls deep inner own f known known E L out false Usual ps h a z y k)
