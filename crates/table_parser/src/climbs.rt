@@ -4,7 +4,7 @@ ghost use Rattle.std.specs.Prelude.{◌≡◌, ◌≤◌, ◌<◌, ◌-◌, ◌^
 ghost use Rattle.c_reader.specs.Readers.{Reads, here};
 ghost use Rattle.c_syntax.specs.Grammar as grammar;
 ghost use Rattle.c_syntax.specs.Reading as reading;
-ghost use Rattle.table_parser.specs.Nests.{Nests, read};
+ghost use Rattle.table_parser.specs.Nests.{Nests, deeper_by, read};
 ghost use Rattle.table_parser.specs.Sound.{is_array, is_element, is_member_name};
 
 use crate::cursor::Cursor;
@@ -13,7 +13,7 @@ use crate::grammar::{Grammar, Owner};
 use crate::nodes::after_first;
 use c_forms::{DeclaratorForm, Form, Sort};
 use c_reader::Refusal;
-use form_decisions::{continued_by, left_level};
+use form_decisions::{continued_by, is_starred, left_level};
 use form_rows::{level, pieces};
 use reader_states::Attempt;
 use std::alloc::Global;
@@ -102,16 +102,15 @@ impl<F: Fn(Global, &mut Cursor<'_>, usize, u8, Sort, u8) -> Result<Found, Refusa
         requires places { self.now.places ≤ 9 }
         requires nests { Nests self.now.depth self.now.places (F.pre self.now.part) (F.post self.now.part) }
         requires form { is_element form ≡ false }
-        requires starred { reading.is_starred form ≡ true }
-        requires room { 0 < self.now.depth }
+        requires room { deeper_by (reading.is_starred form) ≤ self.now.depth }
         requires start { start < 2 ^ 32 - 1 }
         requires low { first.height ≤ self.now.depth }
-        ensures reads { Reads (read self.now.depth (grammar.after_part reading.called own form start first) cursor.old.input) result cursor.new.input }
+        ensures reads { Reads (read self.now.depth (grammar.after_part (grammar.in_place self.now.places) own form start first) cursor.old.input) result cursor.new.input }
         ensures kept { cursor.new.before ≡ cursor.old.before }
         ensures low { IfOk result (λ x. x.height ≤ self.now.depth) }
     {
         let owner = Owner {
-            is_deeper: true,
+            is_deeper: is_starred(form),
             own,
             form,
         };
@@ -122,6 +121,30 @@ impl<F: Fn(Global, &mut Cursor<'_>, usize, u8, Sort, u8) -> Result<Found, Refusa
             Listed::one(first),
             after_first(pieces(form)),
         )
+    }
+
+    /// A node of a form, if that is as tight as it must be.
+    pub fn tight(
+        &self,
+        cursor: &mut Cursor<'_>,
+        own: Sort,
+        form: Form,
+        least: u8,
+    ) -> Result<Standing, Refusal>
+        requires depth { self.now.depth ≤ 1000 }
+        requires places { self.now.places ≤ 9 }
+        requires nests { Nests self.now.depth self.now.places (F.pre self.now.part) (F.post self.now.part) }
+        requires form { is_element form ≡ false }
+        ensures reads { Reads (read self.now.depth (grammar.tight least form (grammar.whole (grammar.in_place self.now.places) own form)) cursor.old.input) result cursor.new.input }
+        ensures kept { cursor.new.before ≡ cursor.old.before }
+        ensures low { IfOk result (λ y. y.found.height ≤ self.now.depth) }
+    {
+        let level = level(form);
+        if level < least {
+            return Err(cursor.refuse());
+        }
+        let found = self.whole(cursor, own, form)?;
+        Ok(Standing { found, level })
     }
 
     /// What goes on with a first part by a form.

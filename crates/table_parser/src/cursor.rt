@@ -48,19 +48,20 @@ impl<'a> Model for Cursor<'a> {
 }
 
 impl<'a> Cursor<'a> {
-    /// Before the first token.
-    pub fn new(tokens: &'a [Token], attempt: Attempt) -> Cursor<'a>
-        requires { length tokens.now < 2 ^ 32 - 1 }
-        ensures { result ≡ record { input = record { tokens = map shape_of tokens.now; at = spot 0 attempt.state }; before = attempt.before } }
+    /// Before the token with a number.
+    pub fn new(tokens: &'a [Token], at: usize, attempt: Attempt) -> Cursor<'a>
+        requires short { length tokens.now < 2 ^ 32 - 1 }
+        requires inside { at ≤ length tokens.now }
+        ensures { result ≡ record { input = record { tokens = map shape_of tokens.now; at = spot at attempt.state }; before = attempt.before } }
     {
         Cursor {
             tokens,
-            at: 0,
+            at,
             attempt,
         }
     }
 
-    /// The attempt that was begun before the first token, as it is now.
+    /// The attempt that it was made with, as it is now.
     pub fn into_attempt(self) -> Attempt
         ensures { result ≡ record { state = self.entry.input.at.state; before = self.entry.before } }
     {

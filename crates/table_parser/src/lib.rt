@@ -14,4 +14,4 @@ pub use cursor::{Cursor, Seen};
 pub use filling::Before;
 pub use found::{Found, Gathered, Listed, node};
 pub use grammar::{Grammar, Owner, PLACES, Part};
-pub use nodes::after_first;
+pub use nodes::{after_first, after_paren};

@@ -31,6 +31,17 @@ pub fn after_first(pieces: &[Piece]) -> &[Piece]
     }
 }
 
+/// The pieces after an opening parenthesis and what happens there.
+pub fn after_paren(pieces: &[Piece]) -> &[Piece]
+    ensures { result.now ≡ grammar.after_paren pieces.now }
+{
+    match pieces {
+        [Piece::Token(_), Piece::Then(_), rest @ ..] => rest,
+        [Piece::Token(_), rest @ ..] => after_paren(rest),
+        _ => &[],
+    }
+}
+
 impl<F: Fn(Global, &mut Cursor<'_>, usize, u8, Sort, u8) -> Result<Found, Refusal>> Grammar<F> {
     /// A part after those that were read.
     fn with_part(
