@@ -712,7 +712,7 @@ module _ (B : Rule → Input → Outcome Found) (d : ℕ) where
         begun_so : Spot → Reader Found
         begun_so i = Bind (Look by_start) (climbing i)
 
-    stays_body : (n : Rule) → is_called n ≡ true → Stays (body n)
+    pub stays_body : (n : Rule) → is_called n ≡ true → Stays (body n)
     stays_body (Of due least) h = stays_in_place places due least (not_true (is_item due) h)
     stays_body Opened h = stays_after_sizeof
 
@@ -720,7 +720,7 @@ module _ (B : Rule → Input → Outcome Found) (d : ℕ) where
 abbrev pub KeptBy : Rule → State → Shape → Found → State → Type 0
 KeptBy n z y x t = is_called n ≡ true → z.kept.is_function_due ≡ false → Still z.aside t
 
-stays_call : (B : Rule → Input → Outcome Found) (d : ℕ) → ((n : Rule) (z : State) (y : Shape) → Leaving B d z y (Call n) (KeptBy n z y)) → (n : Rule) → is_called n ≡ true → Stays B d (Call n)
+pub stays_call : (B : Rule → Input → Outcome Found) (d : ℕ) → ((n : Rule) (z : State) (y : Shape) → Leaving B d z y (Call n) (KeptBy n z y)) → (n : Rule) → is_called n ≡ true → Stays B d (Call n)
 stays_call B d C n h a z y k = leaving_more B d z y (Call n) (KeptBy n z y) (λ _ t. Still a t) (λ x t m. let r = m h k.1 in (r.0 ∙ k.0, r.1)) (C n z y)
 
 pub kept_call : (n : Rule) (z : State) (y : Shape) → Leaves body z y (Call n) (KeptBy n z y)

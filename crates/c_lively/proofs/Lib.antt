@@ -10,3 +10,5 @@ pub mod Alive
 pub mod Alone
 pub mod Firsts
 pub mod AfterSizeof
+pub mod DueRows
+pub mod DueKept
