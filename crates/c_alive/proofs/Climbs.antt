@@ -17,7 +17,7 @@ module _ (due : Sort) (least i : ℕ) (S : State → Type 0) (Q : Tokens) (over 
   abbrev Held : {A : Type 0} → A → State → Type 0
   Held x t = S t
 
-  fin_loop : (z : State) (y : Standing) → S z → Finishes body z Q Held (Loop (turn due least i) y) []
+  pub fin_loop : (z : State) (y : Standing) → S z → Finishes body z Q Held (Loop (turn due least i) y) []
   fin_loop z y k N v place j new h q = ends_last body (turn due least i) (bounded_turn due least i) Held y v (spot place z) j z 0 y k
       (ap (λ b. read body 0 (choose b (Bind (tail_by due i y (continued_by due (raw_at v place))) (λ t. Give (More t))) (Give (Last y))) (from v (spot place z))) (over y z (raw_at v place) (ap (λ k. Q (raw_at v k)) h ∙ q))
       ∙ ap (λ k. Ok (Last y, from v (spot k z))) h)

@@ -82,7 +82,7 @@ module _ (B : Rule → Input → Outcome Found) (d : ℕ) where
   abbrev by_start : Parts → Spot → Seen → Reader Found
   by_start inner i x = choose (begins s.Qualifier x) (specifier_by inner s.Qualifier i.state (spec_of s.Qualifier (is_type_word x) x)) Refuse
 
-  qualifier_keeps : (inner : Parts) → StaysBy B d Due (specifier inner s.Qualifier)
+  pub qualifier_keeps : (inner : Parts) → StaysBy B d Due (specifier inner s.Qualifier)
   unfolding specifier
   qualifier_keeps inner a z y k = leaving_ask B d z y (λ i. Look (by_start inner i)) (λ _ t. Due a t) (λ place. leaving_look B d z y (by_start inner (spot place z)) (λ _ t. Due a t) (leaving_choose B d z y (begins s.Qualifier (seen z y)) (may_be inner z y) Refuse (λ _ t. Due a t)
       (λ e. kept_shape inner z y e a z y k) (λ _. leaving_refuse B d z y (λ _ t. Due a t))))
@@ -90,7 +90,7 @@ module _ (B : Rule → Input → Outcome Found) (d : ℕ) where
   -- ---- declarators
 
   module _ (C : (n : Rule) → is_called n ≡ true → Stays B d (Call n)) (D : (n : Rule) → is_due n ≡ true → StaysBy B d Due (Call n)) where
-    due_called : (due : Sort) (least : ℕ) → is_due (Of due least) ≡ true → StaysBy B d Due (called due least)
+    pub due_called : (due : Sort) (least : ℕ) → is_due (Of due least) ≡ true → StaysBy B d Due (called due least)
     due_called due least h = stays_map B d Due (Call (Of due least)) deeper (D (Of due least) h)
 
     sealing_keeps : StaysBy B d Due sealing
@@ -122,7 +122,7 @@ module _ (B : Rule → Input → Outcome Found) (d : ℕ) where
 
     -- what goes on
 
-    tail_keeps : (i : ℕ) (y : Standing) (x : Shape) → StaysBy B d Due (tail_by s.Declarator i y (continued_by s.Declarator x))
+    pub tail_keeps : (i : ℕ) (y : Standing) (x : Shape) → StaysBy B d Due (tail_by s.Declarator i y (continued_by s.Declarator x))
     unfolding pieces_in
     tail_keeps i y (shape.Punct p) = by_sign p
       where
@@ -178,14 +178,14 @@ module _ (B : Rule → Input → Outcome Found) (d : ℕ) where
     abbrev at_paren : ℕ → ℕ → Seen → Reader Standing
     at_paren n i x = choose (is_sign punct.LeftParen x) (opened_declarator s.Declarator i) (at_star n x)
 
-    head_keeps : (n : ℕ) → StaysBy B d Due (declarator_head (in_place n) s.Declarator 1)
+    pub head_keeps : (n : ℕ) → StaysBy B d Due (declarator_head (in_place n) s.Declarator 1)
     unfolding declarator_head
     head_keeps n = stays_ask B d Due (λ i. Look (at_paren n i.place)) (λ i. stays_look B d Due (at_paren n i.place) (λ x. stays_choose B d Due (is_sign punct.LeftParen x) (opened_declarator s.Declarator i.place) (at_star n x)
         (stays_fits B d Due 0 (Next (standing 17 (parenthesized s.Declarator))) (stays_next B d Due (standing 17 (parenthesized s.Declarator)) wrapped_keeps))
         (stays_choose B d Due (is_sign punct.Star x) (tight 1 pointer (whole (in_place n) s.Declarator pointer)) (at_name n x) (star_keeps (in_place n))
         (stays_choose B d Due (is_value x && true) (standing 17 (whole (in_place n) s.Declarator named)) Refuse (name_keeps n) (stays_refuse B d Due)))))
 
-    declarator_keeps : (n : ℕ) → StaysBy B d Due (in_place n s.Declarator 1)
+    pub declarator_keeps : (n : ℕ) → StaysBy B d Due (in_place n s.Declarator 1)
     unfolding in_place declarator_of
     declarator_keeps zero = stays_refuse B d Due
     declarator_keeps (suc n) = stays_ask B d Due (λ i. Bind (declarator_head (in_place n) s.Declarator 1) (λ y. climb s.Declarator 1 i.place y)) (λ i. stays_bind B d Due (declarator_head (in_place n) s.Declarator 1) (λ y. climb s.Declarator 1 i.place y) (head_keeps n) (λ y. climb_keeps i.place y))

@@ -12,3 +12,5 @@ pub mod Firsts
 pub mod AfterSizeof
 pub mod DueRows
 pub mod DueKept
+pub mod DueLeaves
+pub mod DueEnds
