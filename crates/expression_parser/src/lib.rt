@@ -1,0 +1,6 @@
+//! Reads expressions by the table of forms.
+#![tactic(auto)]
+
+mod expressions;
+
+pub use expressions::Expressions;
