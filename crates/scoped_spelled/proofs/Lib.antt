@@ -7,3 +7,4 @@ mod Calm
 mod Expressions
 mod Heads
 mod Statements
+mod Declarators

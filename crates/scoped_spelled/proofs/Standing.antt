@@ -1,5 +1,5 @@
 -- Where a tree of each sort is ready to be spelled, and what it does there.
-use Rattle.std.specs.Prelude.{◌≡◌, ℕ, Bool, true, false, not, ◌&&◌, ◌||◌, List, [], ◌∷◌, ◌++◌, Option, Some, None}
+use Rattle.std.specs.Prelude.{◌≡◌, ℕ, Bool, true, false, not, ◌&&◌, ◌||◌, List, [], ◌∷◌, ◌++◌, Option, Some, None, is_some}
 use Rattle.c_tokens.specs.declared.token.Word.{Word}
 use Rattle.c_tokens.specs.declared.token.Shape.{Shape}
 use Rattle.c_tokens.specs.declared.token.Shape.TheVariants as shape
@@ -69,8 +69,8 @@ IsCalm t s = (s.kept ≡ nothing_kept) × Holds (events_of naming.Nothing t) s
 pub record Declares (t : Plain) (s : State) : Type 0 where
   pub holds : Holds (events_of naming.Nothing t) s
   pub value : IsValue s (name_of t)
-  -- where a function must be declared
-  pub function : s.kept.is_function_due ≡ true → is_function t ≡ true
+  -- where a function must be declared, it is its name or has parameters next to that
+  pub function : s.kept.is_function_due ≡ true → (is_function t || is_bare_name t) ≡ true
 
 -- the name of its declaration is declared as its specifiers say, and must be a value where they hold no type
 abbrev pub declaring : State → NameUse
@@ -171,6 +171,7 @@ pub record Names (t : Plain) (s u : State) : Type 0 where
   pub typedef : u.kept.is_typedef ≡ s.kept.is_typedef
   pub due : u.kept.is_function_due ≡ s.kept.is_function_due
   pub name : u.kept.name ≡ number_or (name_of t) s.kept.name
+  pub named : is_named t ≡ true → is_some u.kept.name ≡ true
   pub near : is_named t ≡ true → Nears t u.kept.near
 
 -- an identifier that is the name of a declarator
