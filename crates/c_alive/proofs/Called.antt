@@ -71,3 +71,7 @@ live_called deep room due least h low a z y k = live_map body calls deep z y (λ
 
 pub fin_called : (due : Sort) (least : ℕ) (a : List Kept) (z : State) → Finishes body z (none_of (past due least)) (λ _ t. Still a t) (body (Of due least)) (phrase due) → Finishes body z (none_of (past due least)) (λ _ t. Still a t) (called due least) (phrase due)
 fin_called due least a z F = fin_map body z (λ _ t. Still a t) (none_of (past due least)) (λ _ t. Still a t) (Call (Of due least)) deeper (phrase due) (fin_call body z (none_of (past due least)) (λ _ t. Still a t) (Of due least) (phrase due) F) (λ x t k. k)
+
+-- where one is
+pub when_due : (n : Rule) (a : List Kept) (z : State) (x : Found) (t : State) → Due a z → Gives n z x t → Due a t × (names n ≡ true → is_function t ≡ true)
+when_due n a z x t k m = let given : GivesBy true n z.aside t = subst (λ b. GivesBy b n z.aside t) k.1.0 m in ((given.0.0 ∙ k.0, given.0.1), given.1)

@@ -115,7 +115,7 @@ close_near words Bare h = refl
 close_near words (Parameters more) h = refl
 close_near words Other h = absurd (cc h)
 
-not_bare : (z : State) → z.kept.is_function_due ≡ true → may_happen event.Seal z ≡ true → is_bare z.kept.near ≡ false
+pub not_bare : (z : State) → z.kept.is_function_due ≡ true → may_happen event.Seal z ≡ true → is_bare z.kept.near ≡ false
 not_bare z d e = by_both z.kept.is_function_due (is_bare z.kept.near) d e
   where
     by_both : (a b : Bool) → a ≡ true → not (a && b) ≡ true → b ≡ false

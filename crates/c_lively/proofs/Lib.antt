@@ -14,3 +14,4 @@ pub mod DueRows
 pub mod DueKept
 pub mod DueLeaves
 pub mod DueEnds
+pub mod DueLives
