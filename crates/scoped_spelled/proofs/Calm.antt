@@ -71,6 +71,7 @@ is_calm s.Member = true
 is_calm s.Init = true
 is_calm s.Decl = true
 is_calm s.Block = true
+is_calm s.Members = true
 is_calm due = false
 
 pub id_quiet : (f : Form) (sp : Span) (ps : Forest) → is_plain f ≡ true → stands f s.Id ≡ true → events_of naming.Nothing (the_tree f sp ps) ≡ []
@@ -93,6 +94,7 @@ calm_ready s.Member t u c k h = (k, h)
 calm_ready s.Init t u c k h = (k, h)
 calm_ready s.Decl t u c k h = (k, h)
 calm_ready s.Block t u c k h = (k, h)
+calm_ready s.Members t u c k h = (k, h)
 calm_ready due t u c k h = absurd (cc c)
 
 calm_follows : (due : Sort) (t : Plain) (after : List Shape) → is_calm due ≡ true → Follows due t after
@@ -103,6 +105,7 @@ calm_follows s.Member t after c = tt
 calm_follows s.Init t after c = tt
 calm_follows s.Decl t after c = tt
 calm_follows s.Block t after c = tt
+calm_follows s.Members t after c = tt
 calm_follows due t after c = absurd (cc c)
 
 calm_made : (due : Sort) (f : Form) (sp : Span) (ps : Forest) (v u : State) → is_calm due ≡ true → is_plain f ≡ true → stands f due ≡ true → v.kept ≡ nothing_kept → Made due (the_tree f sp ps) v u → Calms (the_tree f sp ps) v u
@@ -116,6 +119,7 @@ calm_made s.Member f sp ps v u c p e k m = m
 calm_made s.Init f sp ps v u c p e k m = m
 calm_made s.Decl f sp ps v u c p e k m = m
 calm_made s.Block f sp ps v u c p e k m = m
+calm_made s.Members f sp ps v u c p e k m = m
 calm_made due f sp ps v u c p e k m = absurd (cc c)
 
 -- a part that is no declarator inside one is of the sort that its piece names

@@ -45,7 +45,7 @@ use Rattle.scoped_spelled.proofs.Calm.{Here, first_holds, goes_on, at_end, RowRe
 
 -- ---- tokens
 
-same_number : (n : ℕ) → has (n ∷ []) n ≡ true
+pub same_number : (n : ℕ) → has (n ∷ []) n ≡ true
 same_number n = grind (arith)
 
 -- a token that is no word is seen alike everywhere

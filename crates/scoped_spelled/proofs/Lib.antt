@@ -8,3 +8,4 @@ mod Expressions
 mod Heads
 mod Statements
 mod Declarators
+mod Specifiers
