@@ -44,7 +44,7 @@ module _ (a : List Kept) where
   abbrev beyond : Tokens
   beyond = none_of (goes_on s.Declarator 1)
 
-  live_declared : (deep : ℕ) → 0 < deep → (z : State) (y : Shape) → Due a z → Live body calls deep z y beyond Made (Call (Of s.Declarator 1))
+  pub live_declared : (deep : ℕ) → 0 < deep → (z : State) (y : Shape) → Due a z → Live body calls deep z y beyond Made (Call (Of s.Declarator 1))
   live_declared deep room z y k = ((refl, (refl, λ e. (refl, k.1.1))), (room, ((λ x q. q), ((λ x t m. let r = when_due (Of s.Declarator 1) a z x t k m in (r.0, r.1 refl)), tt))))
 
   -- ---- qualifiers
@@ -107,13 +107,13 @@ module _ (a : List Kept) where
     led_way : Way body (λ (x : Unit {0}) t. P t) anything beyond Made (λ (_ : Unit {0}). r)
     led_way = record { tokens = u; opens = opens_anything u beyond; finishes = λ _ t k. F t k }
 
-    begun_led : (z : State) (y : Shape) → nat_eq (class z y) (sign_of p) ≡ true → P z → Begun body z y beyond Made led
+    pub begun_led : (z : State) (y : Shape) → nat_eq (class z y) (sign_of p) ≡ true → P z → Begun body z y beyond Made led
     begun_led z y e k = begun_bind body z y (λ _ t. P t) anything beyond Made (token (sign_of p)) (λ _. r) (begun_pick body z y anything (λ _ t. P t) (λ x. only (nat_eq x.class (sign_of p))) tt (ap only e) k) led_way
 
-    live_led : (deep : ℕ) (z : State) (y : Shape) → P z → ((t : State) (x : Shape) → P t → Live body calls deep t x beyond Made r) → Live body calls deep z y beyond Made led
+    pub live_led : (deep : ℕ) (z : State) (y : Shape) → P z → ((t : State) (x : Shape) → P t → Live body calls deep t x beyond Made r) → Live body calls deep z y beyond Made led
     live_led deep z y k L = live_bind body calls deep z y (λ _ t. P t) (λ _ t. P t) anything beyond Made (token (sign_of p)) (λ _. r) ((λ _ _. k), tt) (λ d. leaving_pick (below body d) d z y (λ x. only (nat_eq x.class (sign_of p))) (λ _ t. P t) (λ _ _. k)) led_way (λ _ t x k. L t x k)
 
-  live_star : (deep n : ℕ) (z : State) (y : Shape) → is_sign punct.Star (seen z y) ≡ true → Due a z → Live body calls deep z y beyond Made (standing 1 (whole (in_place n) s.Declarator pointer))
+  pub live_star : (deep n : ℕ) (z : State) (y : Shape) → is_sign punct.Star (seen z y) ≡ true → Due a z → Live body calls deep z y beyond Made (standing 1 (whole (in_place n) s.Declarator pointer))
   unfolding whole pieces_in
   live_star deep n z y e k = live_map body calls deep z y Made beyond beyond Made (Ask (λ i. Fits 0 (completed called s.Declarator pointer i.place nothing (pieces pointer)))) (λ x. record { found = x; level = 1 }) (λ x q. q) (λ x t k. k)
       (λ place. (
@@ -172,11 +172,11 @@ module _ (a : List Kept) where
           (record { tokens = close; opens = opens_if (past s.Params 0) close [] refl; finishes = λ x t m. fin_map body t Made beyond Made parameters_end (λ g. with_first x g) close (fin_parameters_end a beyond k due other t m) (λ g t k. k) })
           (λ x t w m. live_map body calls deep t w Made beyond beyond Made parameters_end (λ g. with_first x g) (λ x q. q) (λ g t k. k) (live_parameters_end deep t w m))
 
-  fin_after_bracket : (z : State) → Function a z → Finishes body z beyond Made after_bracket (shape.Punct punct.RightBracket ∷ [])
+  pub fin_after_bracket : (z : State) → Function a z → Finishes body z beyond Made after_bracket (shape.Punct punct.RightBracket ∷ [])
   fin_after_bracket z k = fin_event event.Aside sized_array z beyond Made (shape.Punct punct.RightBracket ∷ []) refl (fin_sized z.kept k.0.1.0 k.1 (happens event.Aside z) (aside_still a z k.0.0))
 
-  live_after_bracket : (deep : ℕ) → 0 < deep → (z : State) (y : Shape) → Function a z → Live body calls deep z y beyond Made after_bracket
+  pub live_after_bracket : (deep : ℕ) → 0 < deep → (z : State) (y : Shape) → Function a z → Live body calls deep z y beyond Made after_bracket
   live_after_bracket deep room z y k = live_event deep event.Aside sized_array z y beyond Made (λ _. live_sized z.kept k.0.1.0 k.1 deep room (happens event.Aside z) y (aside_still a z k.0.0))
 
-  live_after_paren : (deep : ℕ) → 0 < deep → (z : State) (y : Shape) → Due a z → Live body calls deep z y beyond Made after_paren
+  pub live_after_paren : (deep : ℕ) → 0 < deep → (z : State) (y : Shape) → Due a z → Live body calls deep z y beyond Made after_paren
   live_after_paren deep room z y k = live_event deep event.Aside entering z y beyond Made (λ _. live_event deep event.Enter listed (happens event.Aside z) y beyond Made (λ _. live_listed z.kept k.1.0 k.1.1 deep room (happens event.Enter (happens event.Aside z)) y (aside_still a z k.0)))

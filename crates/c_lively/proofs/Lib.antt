@@ -15,3 +15,4 @@ pub mod DueKept
 pub mod DueLeaves
 pub mod DueEnds
 pub mod DueLives
+pub mod DueDeclarators
