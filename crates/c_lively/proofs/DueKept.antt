@@ -34,6 +34,19 @@ use Rattle.c_alive.proofs.Kept.{Still, StaysBy, Stays, stays_give, stays_refuse,
 use Rattle.c_alive.proofs.Called.{Due, is_due}
 use Rattle.c_lively.proofs.DueRows.{event_then, sign_of, pointer, array, function, after_tree, qualifiers, sealing, pointed, after_star, pointer_row, size, bracket, array_end, sized_array, after_bracket, array_row, closing, parameters_end, listed, entering, after_paren, function_row, seal_due, resume_due, close_function, aside_still}
 
+-- no word, punctuator or mark is a qualifier
+pub no_word : (b : Bool) → has (starts s.Qualifier) (word_class b) ≡ true → ⊥
+no_word true h = cc h
+no_word false h = cc h
+
+pub no_sign : (p : Punct) → has (starts s.Qualifier) (written (shape.Punct p)) ≡ true → ⊥
+no_sign punct.LeftBracket h = cc h
+no_sign _ h = cc h
+
+pub no_mark : (m : Mark) → has (starts s.Qualifier) (written (shape.Mark m)) ≡ true → ⊥
+no_mark mark.Syntax h = cc h
+no_mark _ h = cc h
+
 module _ (B : Rule → Input → Outcome Found) (d : ℕ) where
   leaving_event : {A : Type 0} (e : Event) (r : Reader A) (z : State) (y : Shape) (J : A → State → Type 0) → (may_happen e z ≡ true → Leaving B d (happens e z) y r J) → Leaving B d z y (event_then e r) J
   leaving_event e r z y J R = leaving_ask B d z y (λ i. choose (may_happen e i.state) (Change e r) Refuse) J (λ place. leaving_choose B d z y (may_happen e z) (Change e r) Refuse J (λ m. leaving_change B d z y e r J (R m)) (λ _. leaving_refuse B d z y J))
@@ -59,18 +72,6 @@ module _ (B : Rule → Input → Outcome Found) (d : ℕ) where
   kept_key inner key.Const h z = stays_choose B d Due (may_stand z (form.Spec (spec.Qualifier qualifier.Const))) (whole inner s.Qualifier (form.Spec (spec.Qualifier qualifier.Const))) Refuse (qualified inner qualifier.Const) (stays_refuse B d Due)
   kept_key inner key.Volatile h z = stays_choose B d Due (may_stand z (form.Spec (spec.Qualifier qualifier.Volatile))) (whole inner s.Qualifier (form.Spec (spec.Qualifier qualifier.Volatile))) Refuse (qualified inner qualifier.Volatile) (stays_refuse B d Due)
   kept_key inner _ h z = absurd (cc h)
-
-  no_word : (b : Bool) → has (starts s.Qualifier) (word_class b) ≡ true → ⊥
-  no_word true h = cc h
-  no_word false h = cc h
-
-  no_sign : (p : Punct) → has (starts s.Qualifier) (written (shape.Punct p)) ≡ true → ⊥
-  no_sign punct.LeftBracket h = cc h
-  no_sign _ h = cc h
-
-  no_mark : (m : Mark) → has (starts s.Qualifier) (written (shape.Mark m)) ≡ true → ⊥
-  no_mark mark.Syntax h = cc h
-  no_mark _ h = cc h
 
   kept_shape : (inner : Parts) (z : State) (y : Shape) → begins s.Qualifier (seen z y) ≡ true → StaysBy B d Due (may_be inner z y)
   kept_shape inner z (shape.Key x) h = kept_key inner x h z

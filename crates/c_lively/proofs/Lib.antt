@@ -16,3 +16,4 @@ pub mod DueLeaves
 pub mod DueEnds
 pub mod DueLives
 pub mod DueDeclarators
+pub mod AllCalls
