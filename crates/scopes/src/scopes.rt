@@ -14,6 +14,7 @@ use scope_meanings::NameUse;
 use scope_tables::{ScopeTable, WordClass};
 use std::alloc::Global;
 use std::marker::Model;
+use std::mem;
 
 /// The words that are declared in scopes that lie in one another (ISO/IEC 9899:1990, 6.1.2.1).
 /// Contracts see the list of the scopes, the innermost first, and a scope as its declarations, the
@@ -71,6 +72,20 @@ impl Scopes {
         ensures { result ≡ class_of word.0 self.now }
     {
         self.table.class(word)
+    }
+
+    /// The table of the scopes. One empty scope is left until they are put back.
+    pub fn take(&mut self, alloc: Global) -> ScopeTable
+        ensures { result ≡ self.old }
+    {
+        mem::replace(&mut self.table, ScopeTable::new(alloc))
+    }
+
+    /// The scopes of a table in place of these.
+    pub fn put(&mut self, table: ScopeTable)
+        ensures { self.new ≡ table }
+    {
+        self.table = table;
     }
 
     /// The same scopes once more.
