@@ -104,11 +104,11 @@ inner_follows own t v u after w = absurd w
 
 -- ---- names
 
-or_none : (b : Bool) → (b || false) ≡ b
+pub or_none : (b : Bool) → (b || false) ≡ b
 or_none true = refl
 or_none false = refl
 
-next_none : (n : Option Name) → or_next n None ≡ n
+pub next_none : (n : Option Name) → or_next n None ≡ n
 next_none (Some n) = refl
 next_none None = refl
 
@@ -272,7 +272,7 @@ qualifier_quiet : (q : TypeQualifier) (sp : Span) (ps : Forest) → is_right (fo
 qualifier_quiet q sp empty r = refl
 qualifier_quiet q sp (tree f fp qs rest) r = absurd (cc (right_fits (form.Spec (spec.Qualifier q)) (tree f fp qs rest) r))
 
-qualifiers_quiet : (es : Forest) → pure es ≡ true → valid es ≡ true → all_stand s.Qualifier es ≡ true → asks naming.Nothing es ≡ []
+pub qualifiers_quiet : (es : Forest) → pure es ≡ true → valid es ≡ true → all_stand s.Qualifier es ≡ true → asks naming.Nothing es ≡ []
 qualifiers_quiet empty p v e = refl
 qualifiers_quiet (tree f sp ps rest) p v e =
     let n = first_good s.Qualifier f sp ps rest p v (left_of (stands f s.Qualifier) (all_stand s.Qualifier rest) e) in
@@ -465,7 +465,7 @@ inner_stands f p e = e
 abbrev DeclaratorRow : Sort → DeclaratorForm → Span → Forest → Spot → List Shape → Type 0
 DeclaratorRow own f sp ts i after = Declares (the_tree (form.Declarator f) sp ts) i.state → Wants own (the_tree (form.Declarator f) sp ts) i.state → RowReady own (form.Declarator f) Usual (pieces (form.Declarator f)) ts i after (λ j. Names (the_tree (form.Declarator f) sp ts) i.state j.state)
 
-head_plain : (f : Form) (sp : Span) (ps rest : Forest) → pure (tree f sp ps rest) ≡ true → is_plain f ≡ true
+pub head_plain : (f : Form) (sp : Span) (ps rest : Forest) → pure (tree f sp ps rest) ≡ true → is_plain f ≡ true
 head_plain f sp ps rest p = left_of (is_plain f) (pure ps) (left_of (is_plain f && pure ps) (pure rest) p)
 
 pub declarator_ready : (own : Sort) (f : DeclaratorForm) (sp : Span) (ts : Forest) (i : Spot) (after : List Shape) → fits (pieces (form.Declarator f)) ts ≡ true → pure ts ≡ true → valid ts ≡ true → is_nothing (among_rules (form.Declarator f) ts) ≡ true → DeclaratorRow own f sp ts i after

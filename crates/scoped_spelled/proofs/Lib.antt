@@ -9,3 +9,4 @@ mod Heads
 mod Statements
 mod Declarators
 mod Specifiers
+mod Uses
