@@ -133,7 +133,7 @@ no_inner s.MemberName due e = refl
 no_inner own s.InnerDeclarator e = absurd (cc e)
 no_inner own due e = refl
 
-calm_inside : (due : Sort) → is_calm due ≡ true → is_inside due ≡ false
+pub calm_inside : (due : Sort) → is_calm due ≡ true → is_inside due ≡ false
 calm_inside s.InnerDeclarator c = absurd (cc c)
 calm_inside due c = refl
 
@@ -162,7 +162,7 @@ pub at_past : (P : State → Type 0) (c : Option Class) (i : Spot) → P i.state
 at_past P None i p = p
 at_past P (Some c) i p = p
 
-calm_one : (due : Sort) (f : Form) (sp : Span) (ps : Forest) (i : Spot) (after : List Shape) (more : List Event) (gs : List Frame) (a : List Kept) (K : Spot → Type 0) → is_calm due ≡ true → is_plain f ≡ true → stands f due ≡ true
+pub calm_one : (due : Sort) (f : Form) (sp : Span) (ps : Forest) (i : Spot) (after : List Shape) (more : List Event) (gs : List Frame) (a : List Kept) (K : Spot → Type 0) → is_calm due ≡ true → is_plain f ≡ true → stands f due ≡ true
     → Here i.state (events_of naming.Nothing (the_tree f sp ps) ++ more) gs a → ((j : Spot) → Here j.state more gs a → K j) → IsReady due (the_tree f sp ps) i after K
 calm_one due f sp ps i after more gs a K c p e h k = let t : Plain = the_tree f sp ps in (
   calm_ready due t i.state c h.free (first_holds i.state (events_of naming.Nothing t) more gs a h),

@@ -10,3 +10,4 @@ mod Statements
 mod Declarators
 mod Specifiers
 mod Uses
+mod Declarations

@@ -186,7 +186,7 @@ specs_after due (tree f sp ps rest) i after more gs K c A h k =
       ),
     )
 
-as_elements : (due : Sort) (es : Forest) (i : Spot) (after : List Shape) (K : Spot → Type 0) → OthersReady due 0 None es i after K → AreReady due 0 None es i after K
+pub as_elements : (due : Sort) (es : Forest) (i : Spot) (after : List Shape) (K : Spot → Type 0) → OthersReady due 0 None es i after K → AreReady due 0 None es i after K
 as_elements due empty i after K r = r
 as_elements due (tree f sp ps rest) i after K r = r
 
