@@ -194,7 +194,7 @@ not_true : (b : Bool) → not b ≡ true → b ≡ false
 not_true true e = absurd (cc e)
 not_true false e = refl
 
-opposed : {A : Type 0} {b : Bool} → b ≡ true → b ≡ false → A
+pub opposed : {A : Type 0} {b : Bool} → b ≡ true → b ≡ false → A
 opposed e f = absurd (cc (e, f))
 
 type_name_row : (own : Sort) (sp lp : Span) (ss : Forest) (g : Form) (gp : Span) (qs : Forest) (i : Spot) (after : List Shape) → Good s.Declarator (the_tree g gp qs)

@@ -11,3 +11,4 @@ mod Declarators
 mod Specifiers
 mod Uses
 mod Declarations
+mod Members
