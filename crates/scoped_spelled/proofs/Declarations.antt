@@ -1,15 +1,14 @@
 -- Type names, parameters and what is put aside in declarations are ready where their events hold.
-use Rattle.std.proofs.Common.{◌≡◌, refl, ap, sym, subst, ◌∙◌, ℕ, Bool, true, false, not, ◌&&◌, ◌||◌, if◌then◌else◌, List, [], ◌∷◌, ◌++◌, append_assoc, Option, Some, None}
+use Rattle.std.proofs.Common.{◌≡◌, refl, ap, sym, subst, ◌∙◌, ℕ, Bool, true, false, not, ◌&&◌, ◌||◌, List, [], ◌∷◌, ◌++◌, append_assoc, Option, Some, None}
 use Rattle.c_tokens.specs.declared.span.Span.{Span}
 use Rattle.c_tokens.specs.declared.token.Word.{Word}
 use Rattle.c_tokens.specs.declared.token.Shape.{Shape}
 use Rattle.c_tokens.specs.declared.token.Shape.TheVariants as shape
 use Rattle.c_tokens.specs.declared.token.Punct.{Punct}
 use Rattle.c_tokens.specs.declared.token.Punct.TheVariants as punct
-use Rattle.c_tokens.specs.declared.class.Class.{Class}
 use Rattle.c_tokens.specs.declared.class.Class.TheVariants as class
 use Rattle.c_forms.specs.declared.pieces.Event.TheVariants as event
-use Rattle.c_forms.specs.declared.pieces.Repetition.TheVariants.{Optional, All, Spliced}
+use Rattle.c_forms.specs.declared.pieces.Repetition.TheVariants.{All, Spliced}
 use Rattle.c_forms.specs.declared.pieces.Sort.{Sort}
 use Rattle.c_forms.specs.declared.pieces.Sort.TheVariants as s
 use Rattle.c_forms.specs.declared.forms.Form.{Form}
@@ -18,39 +17,36 @@ use Rattle.c_forms.specs.declared.forms.DeclaratorForm.{DeclaratorForm}
 use Rattle.c_forms.specs.declared.forms.GroupForm.TheVariants as group
 use Rattle.c_forms.specs.declared.rules.Rule.{Rule}
 use Rattle.c_forms.specs.Forests.{Plain, Forest, empty, tree}
-use Rattle.c_forms.specs.Fits.{fits, elements, is_list_of, all_stand}
+use Rattle.c_forms.specs.Fits.{fits, is_list_of, all_stand}
 use Rattle.c_forms.specs.Measures.{is_plain, pieces}
 use Rattle.c_forms.specs.Places.{stands}
-use Rattle.c_forms.specs.Rules.{is_right, unless, are_specifiers, names, is_nothing, among_rules}
+use Rattle.c_forms.specs.Rules.{is_right, unless, are_specifiers, is_nothing, among_rules}
 use Rattle.c_forms.specs.Sets.{has, starts}
 use Rattle.c_reader.specs.States.{Entry, AsValue, State, Kept, nothing_kept, happens, word_class, is_type, top, under}
 use Rattle.c_reader.specs.States as States
 use Rattle.c_reader.specs.Tokens.{Spot, step, turned}
-use Rattle.c_syntax.specs.Reading.{Usual, inside, is_absent}
+use Rattle.c_syntax.specs.Reading.{Usual, inside}
 use Rattle.c_trees.specs.Counts.{pure}
 use Rattle.c_trees.specs.Valid.{valid}
-use Rattle.c_layout.specs.Spelled.{tokens}
 use Rattle.scope_tables.specs.declared.table.WordClass.TheVariants.{Value}
 use Rattle.scope_tables.specs.Frames.{Frame}
-use Rattle.scope_meanings.specs.declared.meaning.NameUse.{NameUse}
 use Rattle.scope_meanings.specs.declared.meaning.NameUse.TheVariants as naming
 use Rattle.scope_meanings.specs.declared.meaning.Name.{Name}
 use Rattle.scope_meanings.specs.Meanings.{has_type, checked_if}
 use Rattle.scopes.specs.declared.event.Event.{Event}
-use Rattle.scopes.specs.declared.event.Event.TheVariants.{Declare}
 use Rattle.scopes.specs.Events.{events_of, declared}
 use Rattle.scopes.specs.Settling.{Scoped, settled}
 use Rattle.spelled_scopes.specs.Meant.{frames}
 use Rattle.spelled_trees.specs.Told.{is_named}
 use Rattle.spelled_trees.proofs.Parts.{left_of, right_of}
-use Rattle.scoped_spelled.proofs.Ready.{the_tree, placed, past, others, IsOff}
-use Rattle.scoped_spelled.proofs.Standing.{Follows, asks, Holds, Ran, name_of, IsValue, IsCalm, Declares, begins_sign, Ready, Made, Keeps, Calms, Names, Notes, number_or}
+use Rattle.scoped_spelled.proofs.Ready.{the_tree, placed, IsOff}
+use Rattle.scoped_spelled.proofs.Standing.{Follows, asks, Holds, Ran, name_of, IsValue, IsCalm, begins_sign, Ready, Made, Keeps, Calms, number_or}
 use Rattle.scoped_spelled.proofs.Steps.{earlier, later, append_nil, one_end}
-use Rattle.scoped_spelled.proofs.Calm.{Here, is_calm, is_inside, IsReady, RowReady, AreReady, OthersReady, calm_one, calm_inside, at_end, part}
+use Rattle.scoped_spelled.proofs.Calm.{Here, is_calm, IsReady, RowReady, AreReady, OthersReady, calm_one, calm_inside, at_end, part}
 use Rattle.scoped_spelled.proofs.Expressions.{never, never_two, seen_value}
-use Rattle.scoped_spelled.proofs.Heads.{Good, first_good, placed_head, id_form}
+use Rattle.scoped_spelled.proofs.Heads.{Good, first_good, placed_head}
 use Rattle.scoped_spelled.proofs.Declarators.{or_none, head_plain, declarator_form, declarator_head}
-use Rattle.scoped_spelled.proofs.Specifiers.{is_spec, Specified, Allows, allows_all, specs_ready, as_elements, running_elements, a_list}
+use Rattle.scoped_spelled.proofs.Specifiers.{is_spec, Allows, allows_all, specs_ready, as_elements, running_elements, a_list}
 use Rattle.scoped_spelled.proofs.Uses.{all_free, has_name, uses_name, declared_last}
 
 -- ---- rules

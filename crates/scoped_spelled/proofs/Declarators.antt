@@ -23,21 +23,19 @@ use Rattle.c_forms.specs.declared.forms.ParamsForm.{ParamsForm}
 use Rattle.c_forms.specs.declared.forms.ParamsForm.TheVariants as params
 use Rattle.c_forms.specs.declared.forms.GroupForm.TheVariants as group
 use Rattle.c_forms.specs.declared.operators.TypeQualifier.{TypeQualifier}
-use Rattle.c_forms.specs.declared.rules.Rule.{Rule}
 use Rattle.c_forms.specs.Forests.{Plain, Forest, empty, tree}
 use Rattle.c_forms.specs.Fits.{fits, elements, is_list_of, all_stand}
 use Rattle.c_forms.specs.Measures.{is_plain, pieces}
 use Rattle.c_forms.specs.Places.{stands}
 use Rattle.c_forms.specs.Rules.{is_none, in_first, is_name, names, named_at, has_function, function_at, has_ids, is_nothing, among_rules, is_right}
-use Rattle.c_reader.specs.States.{Entry, Edge, State, Kept, Near, Bare, Other, Parameters as With, nothing_kept, happens, sealed, with_parameters, parameters, is_bare, has_parameters, outside, innermost, top, under}
+use Rattle.c_reader.specs.States.{Entry, State, Kept, Near, Bare, Other, Parameters as With, happens, sealed, with_parameters, parameters, is_bare, has_parameters, innermost, top, under}
 use Rattle.c_reader.specs.Tokens.{Spot, step, turned}
-use Rattle.c_syntax.specs.Allowed.{may_happen}
 use Rattle.c_syntax.specs.Reading.{Usual, inside, is_absent}
-use Rattle.c_syntax.specs.Spells.{may_list, is_ids}
+use Rattle.c_syntax.specs.Spells.{is_ids}
 use Rattle.c_trees.specs.Counts.{pure}
 use Rattle.c_trees.specs.Valid.{valid}
-use Rattle.c_layout.specs.Spelled.{spell, all_spelled, tokens}
-use Rattle.scope_tables.specs.Frames.{Frame, left, entered}
+use Rattle.c_layout.specs.Spelled.{tokens}
+use Rattle.scope_tables.specs.Frames.{left}
 use Rattle.scope_meanings.specs.declared.meaning.NameUse.TheVariants as naming
 use Rattle.scope_meanings.specs.declared.meaning.Name.{Name}
 use Rattle.scope_meanings.specs.Meanings.{name_in, or_next}
@@ -48,11 +46,11 @@ use Rattle.scopes.specs.Settling.{Scoped, settled}
 use Rattle.spelled_scopes.specs.Meant.{frames}
 use Rattle.spelled_trees.specs.Told.{is_named, is_function, is_bare_name}
 use Rattle.spelled_trees.proofs.Parts.{left_of, right_of}
-use Rattle.scoped_spelled.proofs.Ready.{the_tree, placed, past, others}
-use Rattle.scoped_spelled.proofs.Rows.{list_form, list_stand, stand_by}
-use Rattle.scoped_spelled.proofs.Standing.{Follows, asks, inner_asks, Holds, Ran, name_of, IsValue, IsValueWord, Declares, Ready, Made, Names, Nears, Notes, Parameters, number_or}
-use Rattle.scoped_spelled.proofs.Steps.{earlier, later, split_at, append_nil, one_end, stays}
-use Rattle.scoped_spelled.proofs.Calm.{Here, IsReady, RowReady, AreReady, OthersReady, calm_elements, at_end, part, id_quiet}
+use Rattle.scoped_spelled.proofs.Ready.{the_tree, placed}
+use Rattle.scoped_spelled.proofs.Rows.{list_form, list_stand}
+use Rattle.scoped_spelled.proofs.Standing.{Follows, asks, inner_asks, Holds, Ran, name_of, Declares, Ready, Made, Names, Nears, number_or}
+use Rattle.scoped_spelled.proofs.Steps.{earlier, later, split_at, append_nil, one_end}
+use Rattle.scoped_spelled.proofs.Calm.{RowReady, AreReady, OthersReady, calm_elements, at_end, part}
 use Rattle.scoped_spelled.proofs.Expressions.{never, never_two}
 use Rattle.scoped_spelled.proofs.Heads.{placed_head, Good, first_good, good_fits, right_fits, parts_of, id_form}
 use Rattle.scoped_spelled.proofs.Statements.{around, holds_rule}

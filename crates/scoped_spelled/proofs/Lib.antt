@@ -12,3 +12,4 @@ mod Specifiers
 mod Uses
 mod Declarations
 mod Members
+mod Nodes

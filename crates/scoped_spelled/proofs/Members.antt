@@ -1,10 +1,10 @@
 -- Enumerators, and declarators with what goes with them, are ready where their events hold.
-use Rattle.std.proofs.Common.{◌≡◌, refl, ap, sym, subst, ◌∙◌, ℕ, Bool, true, false, not, ◌&&◌, ◌||◌, if◌then◌else◌, List, [], ◌∷◌, ◌++◌, append_assoc, Option, Some, None}
+use Rattle.std.proofs.Common.{◌≡◌, refl, ap, sym, subst, ◌∙◌, ℕ, Bool, true, false, not, ◌&&◌, ◌||◌, List, [], ◌∷◌, ◌++◌, append_assoc, Option, Some}
 use Rattle.c_tokens.specs.declared.span.Span.{Span}
 use Rattle.c_tokens.specs.declared.token.Word.{Word}
 use Rattle.c_tokens.specs.declared.token.Shape.{Shape}
 use Rattle.c_forms.specs.declared.pieces.Event.TheVariants as event
-use Rattle.c_forms.specs.declared.pieces.Repetition.TheVariants.{Optional, Due}
+use Rattle.c_forms.specs.declared.pieces.Repetition.TheVariants.{Optional}
 use Rattle.c_forms.specs.declared.pieces.Sort.{Sort}
 use Rattle.c_forms.specs.declared.pieces.Sort.TheVariants as s
 use Rattle.c_forms.specs.declared.forms.Form.{Form}
@@ -17,13 +17,12 @@ use Rattle.c_forms.specs.Forests.{Plain, Forest, empty, tree}
 use Rattle.c_forms.specs.Fits.{fits, is_list_of, all_stand}
 use Rattle.c_forms.specs.Measures.{is_plain, pieces}
 use Rattle.c_forms.specs.Places.{stands}
-use Rattle.c_forms.specs.Rules.{is_right, unless, names, is_nothing, among_rules}
+use Rattle.c_forms.specs.Rules.{is_nothing, among_rules}
 use Rattle.c_reader.specs.States.{Entry, AsValue, State, Kept, happens, entry}
 use Rattle.c_reader.specs.States as States
-use Rattle.c_reader.specs.Tokens.{Spot, step, turned}
-use Rattle.c_syntax.specs.Reading.{Usual, inside}
+use Rattle.c_reader.specs.Tokens.{Spot, turned}
+use Rattle.c_syntax.specs.Reading.{Usual}
 use Rattle.c_trees.specs.Counts.{pure}
-use Rattle.c_trees.specs.Valid.{valid}
 use Rattle.scope_tables.specs.declared.table.WordClass.{WordClass}
 use Rattle.scope_tables.specs.declared.table.WordClass.TheVariants.{Value}
 use Rattle.scope_tables.specs.Frames.{Frame, class_named}
@@ -39,12 +38,12 @@ use Rattle.spelled_scopes.specs.Meant.{frames}
 use Rattle.spelled_trees.specs.Told.{is_named}
 use Rattle.spelled_trees.proofs.Parts.{left_of, right_of}
 use Rattle.scoped_spelled.proofs.Ready.{the_tree}
-use Rattle.scoped_spelled.proofs.Standing.{number_or, asks, Holds, Ran, name_of, Names, Notes, Goes, declaring}
+use Rattle.scoped_spelled.proofs.Standing.{number_or, asks, Holds, Ran, name_of, Goes, declaring}
 use Rattle.scoped_spelled.proofs.Steps.{earlier, later, append_nil, one_end}
 use Rattle.scoped_spelled.proofs.Calm.{RowReady, part}
 use Rattle.scoped_spelled.proofs.Expressions.{never, never_two}
-use Rattle.scoped_spelled.proofs.Heads.{Good, first_good, id_form}
-use Rattle.scoped_spelled.proofs.Declarators.{head_plain, or_none, next_none, declarator_form}
+use Rattle.scoped_spelled.proofs.Heads.{Good, id_form}
+use Rattle.scoped_spelled.proofs.Declarators.{head_plain, or_none, next_none}
 use Rattle.scoped_spelled.proofs.Specifiers.{a_list}
 use Rattle.scoped_spelled.proofs.Uses.{by_declarator, all_free, uses_name, declared_last}
 use Rattle.scoped_spelled.proofs.Declarations.{keeping_elements, two_rules, opposed}

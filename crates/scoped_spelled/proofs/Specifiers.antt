@@ -1,13 +1,11 @@
 -- Specifiers are ready where they may stand and their events hold.
-use Rattle.std.proofs.Common.{◌≡◌, ◌≤◌, ◌<◌, refl, ap, sym, subst, ◌∙◌, ℕ, ◌+◌, Bool, true, false, not, ◌&&◌, ◌||◌, if◌then◌else◌, List, [], ◌∷◌, ◌++◌, append_assoc, Option, Some, None, nat_lt, arith}
+use Rattle.std.proofs.Common.{◌≡◌, ◌≤◌, ◌<◌, refl, ap, sym, subst, ◌∙◌, ℕ, ◌+◌, Bool, true, false, not, ◌&&◌, ◌||◌, if◌then◌else◌, List, [], ◌∷◌, ◌++◌, append_assoc, Option, None, nat_lt, arith}
 use Rattle.c_tokens.specs.declared.span.Span.{Span}
 use Rattle.c_tokens.specs.declared.token.Word.{Word}
 use Rattle.c_tokens.specs.declared.token.Shape.{Shape}
 use Rattle.c_tokens.specs.declared.token.Shape.TheVariants as shape
-use Rattle.c_tokens.specs.declared.token.Punct.{Punct}
-use Rattle.c_tokens.specs.declared.token.Punct.TheVariants as punct
 use Rattle.c_forms.specs.declared.pieces.Event.TheVariants as event
-use Rattle.c_forms.specs.declared.pieces.Repetition.TheVariants.{Optional, Due, Spliced}
+use Rattle.c_forms.specs.declared.pieces.Repetition.TheVariants.{Optional, Due}
 use Rattle.c_forms.specs.declared.pieces.Sort.{Sort}
 use Rattle.c_forms.specs.declared.pieces.Sort.TheVariants as s
 use Rattle.c_forms.specs.declared.operators.StorageClass.{StorageClass}
@@ -27,8 +25,8 @@ use Rattle.c_forms.specs.Forests.{Plain, Forest, empty, tree}
 use Rattle.c_forms.specs.Fits.{fits, elements, is_list_of, is_spliced, all_stand}
 use Rattle.c_forms.specs.Measures.{is_plain, pieces}
 use Rattle.c_forms.specs.Places.{stands}
-use Rattle.c_forms.specs.Rules.{unless, is_none, is_type, is_sole, is_type_spec, is_sole_spec, types, has_sole, one_if, are_specifiers, is_nothing, among_rules}
-use Rattle.c_forms.specs.Sets.{has, starts, type_word}
+use Rattle.c_forms.specs.Rules.{unless, is_none, is_type, is_sole, types, has_sole, one_if, are_specifiers, is_nothing, among_rules}
+use Rattle.c_forms.specs.Sets.{has, type_word}
 use Rattle.c_forms.specs.Tokens.{storage_token, qualifier_token, basic_token, group_token}
 use Rattle.c_reader.specs.States.{State, Kept, AsValue, nothing_kept, happens, word_class, top, under}
 use Rattle.c_reader.specs.States as States
@@ -36,8 +34,6 @@ use Rattle.c_reader.specs.Tokens.{Spot, step, turned}
 use Rattle.c_syntax.specs.Allowed.{may_stand, fits_beside}
 use Rattle.c_syntax.specs.Reading.{Before, Usual, before_by, is_missing}
 use Rattle.c_trees.specs.Counts.{pure}
-use Rattle.c_trees.specs.Valid.{valid}
-use Rattle.c_layout.specs.Spelled.{spell, all_spelled, tokens}
 use Rattle.scope_tables.specs.Frames.{Frame}
 use Rattle.scope_meanings.specs.declared.meaning.NameUse.TheVariants as naming
 use Rattle.scope_meanings.specs.Meanings.{has_type, has_typedef, is_typedef}
@@ -46,14 +42,12 @@ use Rattle.scopes.specs.Events.{events_of}
 use Rattle.scopes.specs.Settling.{Scoped, settled}
 use Rattle.spelled_scopes.specs.Meant.{frames}
 use Rattle.spelled_trees.proofs.Parts.{left_of, right_of}
-use Rattle.scoped_spelled.proofs.Ready.{the_tree, past, others, IsOff, IsOwn}
+use Rattle.scoped_spelled.proofs.Ready.{the_tree, past}
 use Rattle.scoped_spelled.proofs.Rows.{list_form, list_stand, stand_by}
 use Rattle.scoped_spelled.proofs.Standing.{Follows, asks, Holds, Ran, Ready, Made, Specifies}
 use Rattle.scoped_spelled.proofs.Steps.{earlier, later, append_nil, one_end, must_type}
-use Rattle.scoped_spelled.proofs.Calm.{Here, IsReady, RowReady, AreReady, OthersReady, GroupReady, calm_elements, at_end, at_past, part}
-use Rattle.scoped_spelled.proofs.Expressions.{never, never_two, seen_alike, same_number}
-use Rattle.scoped_spelled.proofs.Heads.{parts_of}
-use Rattle.scoped_spelled.proofs.Statements.{holds_rule}
+use Rattle.scoped_spelled.proofs.Calm.{Here, RowReady, AreReady, OthersReady, GroupReady, calm_elements, at_end, at_past}
+use Rattle.scoped_spelled.proofs.Expressions.{never, never_two, seen_alike}
 
 -- ---- what may stand
 

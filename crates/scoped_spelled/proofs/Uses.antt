@@ -1,8 +1,7 @@
 -- What the use of a declarator's name adds to its events.
-use Rattle.std.proofs.Common.{◌≡◌, refl, ap, sym, subst, ◌∙◌, ℕ, Bool, true, false, not, ◌&&◌, ◌||◌, List, [], ◌∷◌, ◌++◌, append_assoc, Option, Some, None}
+use Rattle.std.proofs.Common.{◌≡◌, refl, ap, sym, subst, ◌∙◌, Bool, true, false, not, ◌&&◌, List, [], ◌++◌, append_assoc, Option, Some, None}
 use Rattle.c_tokens.specs.declared.span.Span.{Span}
 use Rattle.c_tokens.specs.declared.token.Word.{Word}
-use Rattle.c_forms.specs.declared.pieces.Repetition.{Repetition}
 use Rattle.c_forms.specs.declared.pieces.Repetition.TheVariants.{Optional, Many}
 use Rattle.c_forms.specs.declared.pieces.Sort.{Sort}
 use Rattle.c_forms.specs.declared.pieces.Sort.TheVariants as s
@@ -17,22 +16,20 @@ use Rattle.c_forms.specs.declared.forms.DeclaratorForm.TheVariants as declarator
 use Rattle.c_forms.specs.declared.forms.GroupForm.TheVariants as group
 use Rattle.c_forms.specs.declared.forms.ParamsForm.{ParamsForm}
 use Rattle.c_forms.specs.Forests.{Plain, Forest, empty, tree}
-use Rattle.c_forms.specs.Fits.{fits, elements, is_list_of, is_spliced, all_stand}
-use Rattle.c_forms.specs.Measures.{is_plain, pieces}
+use Rattle.c_forms.specs.Fits.{is_list_of, all_stand}
+use Rattle.c_forms.specs.Measures.{is_plain}
 use Rattle.c_forms.specs.Places.{stands}
 use Rattle.c_forms.specs.Rules.{is_right}
 use Rattle.c_reader.specs.States.{Entry, State, is_type}
 use Rattle.c_trees.specs.Counts.{pure}
 use Rattle.c_trees.specs.Valid.{valid}
 use Rattle.scope_tables.specs.declared.table.WordClass.{WordClass}
-use Rattle.scope_tables.specs.declared.table.WordClass.TheVariants.{Value}
 use Rattle.scope_tables.specs.Frames.{Frame}
 use Rattle.scope_meanings.specs.declared.meaning.NameUse.{NameUse}
 use Rattle.scope_meanings.specs.declared.meaning.NameUse.TheVariants as naming
 use Rattle.scope_meanings.specs.declared.meaning.Name.{Name}
 use Rattle.scope_meanings.specs.Meanings.{checked_if, name_in, or_next}
 use Rattle.scopes.specs.declared.event.Event.{Event}
-use Rattle.scopes.specs.declared.event.Event.TheVariants.{Must}
 use Rattle.scopes.specs.Events.{events_of, checked, declared}
 use Rattle.scopes.specs.Settling.{Scoped, settled}
 use Rattle.spelled_scopes.specs.Meant.{frames}
