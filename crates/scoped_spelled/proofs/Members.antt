@@ -3,6 +3,7 @@ use Rattle.std.proofs.Common.{◌≡◌, refl, ap, sym, subst, ◌∙◌, ℕ, B
 use Rattle.c_tokens.specs.declared.span.Span.{Span}
 use Rattle.c_tokens.specs.declared.token.Word.{Word}
 use Rattle.c_tokens.specs.declared.token.Shape.{Shape}
+use Rattle.c_tokens.specs.declared.class.Class.{Class}
 use Rattle.c_forms.specs.declared.pieces.Event.TheVariants as event
 use Rattle.c_forms.specs.declared.pieces.Repetition.TheVariants.{Optional}
 use Rattle.c_forms.specs.declared.pieces.Sort.{Sort}
@@ -23,6 +24,7 @@ use Rattle.c_reader.specs.States as States
 use Rattle.c_reader.specs.Tokens.{Spot, turned}
 use Rattle.c_syntax.specs.Reading.{Usual}
 use Rattle.c_trees.specs.Counts.{pure}
+use Rattle.c_trees.specs.Valid.{valid}
 use Rattle.scope_tables.specs.declared.table.WordClass.{WordClass}
 use Rattle.scope_tables.specs.declared.table.WordClass.TheVariants.{Value}
 use Rattle.scope_tables.specs.Frames.{Frame, class_named}
@@ -40,10 +42,10 @@ use Rattle.spelled_trees.proofs.Parts.{left_of, right_of}
 use Rattle.scoped_spelled.proofs.Ready.{the_tree}
 use Rattle.scoped_spelled.proofs.Standing.{number_or, asks, Holds, Ran, name_of, Goes, declaring}
 use Rattle.scoped_spelled.proofs.Steps.{earlier, later, append_nil, one_end}
-use Rattle.scoped_spelled.proofs.Calm.{RowReady, part}
+use Rattle.scoped_spelled.proofs.Calm.{RowReady, AreReady, OthersReady, part}
 use Rattle.scoped_spelled.proofs.Expressions.{never, never_two}
-use Rattle.scoped_spelled.proofs.Heads.{Good, id_form}
-use Rattle.scoped_spelled.proofs.Declarators.{head_plain, or_none, next_none}
+use Rattle.scoped_spelled.proofs.Heads.{Good, first_good, id_form}
+use Rattle.scoped_spelled.proofs.Declarators.{declarator_form, head_plain, or_none, next_none}
 use Rattle.scoped_spelled.proofs.Specifiers.{a_list}
 use Rattle.scoped_spelled.proofs.Uses.{by_declarator, all_free, uses_name, declared_last}
 use Rattle.scoped_spelled.proofs.Declarations.{keeping_elements, two_rules, opposed}
@@ -154,5 +156,59 @@ init_declarator_row own sp f gp qs kp is i after p a n q h due =
                     due = ap (λ (k : Kept). k.is_function_due) w ∙ N.due;
                   }),
             ),
+      ),
+    )
+
+-- ---- declarators of a declaration
+
+pub init_declarator_ready : (own : Sort) (sp : Span) (ts : Forest) (i : Spot) (after : List Shape) → fits (pieces (form.Group group.InitDeclarator)) ts ≡ true → pure ts ≡ true → valid ts ≡ true → is_nothing (among_rules (form.Group group.InitDeclarator) ts) ≡ true
+    → Holds (events_of (declaring i.state) (the_tree (form.Group group.InitDeclarator) sp ts)) i.state → i.state.kept.is_function_due ≡ false
+    → RowReady own (form.Group group.InitDeclarator) Usual (pieces (form.Group group.InitDeclarator)) ts i after (λ j. Goes (declaring i.state) (the_tree (form.Group group.InitDeclarator) sp ts) i.state j.state)
+init_declarator_ready own sp empty i after t p v q h due = absurd (cc t)
+init_declarator_ready own sp (tree g gp qs empty) i after t p v q h due = absurd (never _ t)
+init_declarator_ready own sp (tree g gp qs (tree k kp is (tree l lp es rest))) i after t p v q h due = absurd (never_two (stands g s.Declarator) (is_list_of Optional s.Initializer k is) t)
+init_declarator_ready own sp (tree g gp qs (tree k kp is empty)) i after t p v q h due =
+    let a = a_list Optional s.Initializer k kp is empty (left_of (is_list_of Optional s.Initializer k is) true (right_of (stands g s.Declarator) _ t)) (right_of (is_plain g && pure qs) (pure (tree k kp is empty)) p) in
+    let n = first_good s.Declarator g gp qs (tree k kp is empty) p v (left_of (stands g s.Declarator) _ t) in
+    let d = declarator_form g n.is_plain n.stands in
+    subst (λ g. Good s.Declarator (the_tree g gp qs) → is_nothing (among_rules (form.Group group.InitDeclarator) (tree g gp qs (tree k kp is empty))) ≡ true → Holds (events_of (declaring i.state) (the_tree (form.Group group.InitDeclarator) sp (tree g gp qs (tree k kp is empty)))) i.state
+    → RowReady own (form.Group group.InitDeclarator) Usual (pieces (form.Group group.InitDeclarator)) (tree g gp qs (tree k kp is empty)) i after (λ j. Goes (declaring i.state) (the_tree (form.Group group.InitDeclarator) sp (tree g gp qs (tree k kp is empty))) i.state j.state)) (sym d.1)
+    (λ n q h. subst (λ k. is_nothing (among_rules (form.Group group.InitDeclarator) (tree (form.Declarator d.0) gp qs (tree k kp is empty))) ≡ true → Holds (events_of (declaring i.state) (the_tree (form.Group group.InitDeclarator) sp (tree (form.Declarator d.0) gp qs (tree k kp is empty)))) i.state
+    → RowReady own (form.Group group.InitDeclarator) Usual (pieces (form.Group group.InitDeclarator)) (tree (form.Declarator d.0) gp qs (tree k kp is empty)) i after (λ j. Goes (declaring i.state) (the_tree (form.Group group.InitDeclarator) sp (tree (form.Declarator d.0) gp qs (tree k kp is empty))) i.state j.state)) (sym a.0)
+    (λ q h. init_declarator_row own sp d.0 gp qs kp is i after a.1.0 a.1.1 n q h due) q h) n q h
+
+same_declaring : (u v : State) → v.kept.has_type ≡ u.kept.has_type → v.kept.is_typedef ≡ u.kept.is_typedef → declaring v ≡ declaring u
+same_declaring u v a b = ap (λ x. naming.Declared (class_named x) (not v.kept.has_type)) b ∙ ap (λ x. naming.Declared (class_named u.kept.is_typedef) (not x)) a
+
+-- after some of them, the others; each is declared as the specifiers say
+inits_after : (c : Class) (es : Forest) (i : Spot) (after : List Shape) (u : NameUse) (gs : List Frame) (a : List Kept) (K : Spot → Type 0) → declaring i.state ≡ u → i.state.kept.is_function_due ≡ false → i.state.aside ≡ a → settled (asks u es ++ []) (frames i.state.entries) ≡ Scoped gs
+    → ((j : Spot) → frames j.state.entries ≡ gs → j.state.aside ≡ a → K j) → OthersReady s.InitDeclarator 0 (Some c) es i after K
+inits_after c empty i after u gs a K e due x h k = k i (one_end (frames i.state.entries) gs h) x
+inits_after c (tree f sp ps rest) i after u gs a K e due x h k =
+    let t : Plain = the_tree f sp ps in
+    let ds : List Event = events_of u t in
+    let H : settled (ds ++ (asks u rest ++ [])) (frames i.state.entries) ≡ Scoped gs = ap (λ l. settled l (frames i.state.entries)) (sym (append_assoc ds (asks u rest) [])) ∙ h in (
+      (subst (λ u. Holds (events_of u t) i.state) (sym e) (earlier ds (asks u rest ++ []) i.state (gs, H)), due),
+      (
+        tt,
+        λ j d. let G = d.made in
+            inits_after c rest j after u gs a K (same_declaring i.state j.state G.typed G.typedef ∙ e) (G.due ∙ due) (G.ran.aside ∙ x)
+            (later ds (asks u rest ++ []) (frames i.state.entries) (frames j.state.entries) gs (ap (λ u. settled (events_of u t) (frames i.state.entries)) (sym e) ∙ G.ran.scoped) H) k,
+      ),
+    )
+
+inits_ready : (c : Class) (es : Forest) (i : Spot) (after : List Shape) (u : NameUse) (gs : List Frame) (K : Spot → Type 0) → declaring i.state ≡ u → i.state.kept.is_function_due ≡ false → settled (asks u es ++ []) (frames i.state.entries) ≡ Scoped gs
+    → ((j : Spot) → frames j.state.entries ≡ gs → j.state.aside ≡ i.state.aside → K j) → AreReady s.InitDeclarator 0 (Some c) es i after K
+inits_ready c empty i after u gs K e due h k = k i (one_end (frames i.state.entries) gs h) refl
+inits_ready c (tree f sp ps rest) i after u gs K e due h k =
+    let t : Plain = the_tree f sp ps in
+    let ds : List Event = events_of u t in
+    let H : settled (ds ++ (asks u rest ++ [])) (frames i.state.entries) ≡ Scoped gs = ap (λ l. settled l (frames i.state.entries)) (sym (append_assoc ds (asks u rest) [])) ∙ h in (
+      (subst (λ u. Holds (events_of u t) i.state) (sym e) (earlier ds (asks u rest ++ []) i.state (gs, H)), due),
+      (
+        tt,
+        λ j d. let G = d.made in
+            inits_after c rest j after u gs i.state.aside K (same_declaring i.state j.state G.typed G.typedef ∙ e) (G.due ∙ due) G.ran.aside
+            (later ds (asks u rest ++ []) (frames i.state.entries) (frames j.state.entries) gs (ap (λ u. settled (events_of u t) (frames i.state.entries)) (sym e) ∙ G.ran.scoped) H) k,
       ),
     )
