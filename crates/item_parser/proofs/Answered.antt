@@ -1,5 +1,5 @@
 -- What the answers of the reader of items say of readings.
-use Rattle.std.proofs.Common.{◌≡◌, ◌≢◌, ◌≤◌, refl, sym, ap, subst, ◌∙◌, ℕ, true, List, Ok, Err, Result, IfOk, IfErr, map, arith}
+use Rattle.std.proofs.Common.{◌≡◌, ◌≢◌, ◌≤◌, ◌<◌, length, refl, sym, ap, subst, ◌∙◌, ℕ, true, List, Ok, Err, Result, IfOk, IfErr, map, arith}
 use Rattle.c_tokens.specs.declared.token.Shape.{Shape}
 use Rattle.c_tokens.specs.declared.token.Token.{Token}
 use Rattle.c_forms.specs.declared.pieces.Sort.TheVariants as sort
@@ -21,7 +21,8 @@ use Rattle.spelled_trees.proofs.Trees.{telling, spelled_item}
 use Rattle.c_alive.proofs.Tame.{bodies, tame_item}
 use Rattle.draft_trees.specs.Placing.{placed}
 use Rattle.draft_trees.specs.Right.{IsRight}
-use Rattle.item_parser.specs.Answers.{IsNext, Gives, answer_of}
+use Rattle.item_parser.specs.Answers.{IsNext, Gives, Settles, answer_of}
+use Rattle.item_parser.proofs.Settled.{settles}
 use Rattle.table_parser.specs.Cursors.{shape_of}
 use Rattle.item_parser.specs.Readings.{start, Reading, Dead, DeepDead}
 
@@ -100,13 +101,16 @@ module _ (tokens : List Token) (frames : List Frame) (at : ℕ) (x : Found) (p :
       given (Err e) = item
   made_is t made item (Err r) h m k = absurd (cc k)
 
-  pub is_next : (t : Plain) (tree : Result Plain Refusal) (r : Result (Plain × ℕ) Refusal) → t ≡ x.tree → IfOk tree (λ made. made ≡ placed tokens t) → IfOk r (λ a. (tree ≡ Ok a.0) × (a.1 ≡ end)) → IfOk r (λ a. IsNext tokens frames at a)
-  is_next t tree (Ok a) h m k = record {
-    item = x.tree;
-    reading = subst (λ n. Reading 1000 frames w at x.tree n) (sym k.1) reading;
-    is_placed = made_is t t a.0 tree h m k.0;
-  }
-  is_next t tree (Err r) h m k = tt
+  pub is_next : 0 < length frames → (t : Plain) (tree : Result Plain Refusal) (r : Result (Plain × ℕ) Refusal) → t ≡ x.tree → IfOk tree (λ made. made ≡ placed tokens t) → IfOk r (λ a. (tree ≡ Ok a.0) × (a.1 ≡ end)) → IfOk r (λ a. IsNext tokens frames at a)
+  is_next some t tree (Ok a) h m k =
+      let this = made_is t t a.0 tree h m k.0 in
+      record {
+        item = x.tree;
+        reading = subst (λ n. Reading 1000 frames w at x.tree n) (sym k.1) reading;
+        is_placed = this;
+        is_settled = subst (Settles frames) (sym this) (settles tokens frames w at x.tree end some reading);
+      }
+  is_next some t tree (Err r) h m k = tt
 
   pub is_given : (t : Plain) (tree : Result Plain Refusal) (r : Result (Plain × ℕ) Refusal) → t ≡ x.tree → IfOk tree (λ made. made ≡ placed tokens t) → IfOk r (λ a. (tree ≡ Ok a.0) × (a.1 ≡ end)) → IfErr r (λ e. e ≡ Memory)
       → (depth : ℕ) (item : Plain) (last : ℕ) → depth ≤ 1000 → Reading depth frames w at item last → Gives (placed tokens item, last) r

@@ -74,10 +74,13 @@ fn next_found(
 ) -> Result<(Found, usize), Refusal>
     requires short { length tokens.now < 2 ^ 32 - 1 }
     requires inside { at ≤ length tokens.now }
+    ensures some { 0 < length scopes.old }
     ensures finds { Finds (answer_of scopes.old (map shape_of tokens.now) at) result }
     ensures kept { scopes.new ≡ scopes.old }
 {
-    let attempt = Attempt::begin(alloc, scopes.take(alloc));
+    let table = scopes.take(alloc);
+    let _steps = table.steps();
+    let attempt = Attempt::begin(alloc, table);
     let mut cursor = Cursor::new(tokens, at, attempt);
     let found = in_place(alloc, &mut cursor, MAX_DEPTH, PLACES, Sort::Item, 0);
     let end = cursor.place();

@@ -11,7 +11,7 @@ pub item_at-requires-clause-item : goal.item_at-requires-clause-item
 item_at-requires-clause-item c = tree_stands c.args.tokens.now c.args.scopes.now c.args.at c.in-Ok.found c.in-Ok.ensures.finds.0 c.in-Ok.end c.in-Ok.ensures.finds.1.0 c.in-Ok.ensures.finds.1.1 c.into_draft.result c.placed_tree-tree.result c.into_draft.ensures c.placed_tree-tree.ensures.placed
 
 pub returns-in-Ok-clause-read : goal.returns-in-Ok-clause-read
-returns-in-Ok-clause-read c = is_next c.args.tokens.now c.args.scopes.now c.args.at c.in-Ok.found c.in-Ok.ensures.finds.0 c.in-Ok.end c.in-Ok.ensures.finds.1.0 c.in-Ok.ensures.finds.1.1 c.into_draft.result c.placed_tree-tree.result c.item_at.result c.into_draft.ensures c.placed_tree-tree.ensures.placed c.item_at.ensures.done
+returns-in-Ok-clause-read c = is_next c.args.tokens.now c.args.scopes.now c.args.at c.in-Ok.found c.in-Ok.ensures.finds.0 c.in-Ok.end c.in-Ok.ensures.finds.1.0 c.in-Ok.ensures.finds.1.1 c.next_found.ensures.some c.into_draft.result c.placed_tree-tree.result c.item_at.result c.into_draft.ensures c.placed_tree-tree.ensures.placed c.item_at.ensures.done
 
 pub returns-in-Ok-clause-complete : goal.returns-in-Ok-clause-complete
 returns-in-Ok-clause-complete c = is_given c.args.tokens.now c.args.scopes.now c.args.at c.in-Ok.found c.in-Ok.ensures.finds.0 c.in-Ok.end c.in-Ok.ensures.finds.1.0 c.in-Ok.ensures.finds.1.1 c.into_draft.result c.placed_tree-tree.result c.item_at.result c.into_draft.ensures c.placed_tree-tree.ensures.placed c.item_at.ensures.done c.item_at.ensures.refused
