@@ -13,3 +13,4 @@ mod Uses
 mod Declarations
 mod Members
 mod Nodes
+mod Decls
