@@ -19,7 +19,7 @@ use Rattle.c_syntax.specs.Reading.{Before, Gathered, none_at, is_class, is_missi
 use Rattle.c_syntax.specs.Grammar.{body}
 use Rattle.c_alive.proofs.Tame.{Firm, takes, sound, is_loop, bounded_group}
 use Rattle.c_alive.proofs.Phrased.{none_of, none_within, past, phrase, group_phrase, by_least, live_fewer}
-use Rattle.c_alive.proofs.Groups.{live_element, fin_element, live_others, live_some, fin_some, live_at_most, fin_at_most}
+use Rattle.c_alive.proofs.Groups.{fin_others, live_element, fin_element, live_others, live_some, fin_some, live_at_most, fin_at_most}
 
 -- ---- what may not follow a repetition
 
@@ -135,6 +135,10 @@ module _ (S : State → Type 0) (due : Sort) (least : ℕ) (element : Reader Fou
 
   fin_loop : (r : Repetition) → Bounded body (turn_while (goes r due) (λ _ g. by r due element g)) → (i : ℕ) (z : State) → S z → Finishes body z (there r) Held (Bind (element_after element (none_at i)) (λ g. others r due element g)) (phrase due)
   fin_loop r B i z k = fin_some S (there r) element (phrase due) (ends_there r) r due B (over due least r) z i k
+
+  -- no more than the first
+  pub fin_more : (r : Repetition) → Bounded body (turn_while (goes r due) (λ _ g. by r due element g)) → (g : Gathered) (z : State) → S z → Finishes body z (there r) Held (others r due element g) []
+  fin_more r B g z k = fin_others S (there r) element (phrase due) (ends_there r) r due B (over due least r) z g k
 
   fin_many : (r : Repetition) → is_loop r ≡ true → sound r due ≡ true → (i : ℕ) (z : State) → S z → Finishes body z (there r) Held (many r due element i) (phrase due)
   unfolding many

@@ -761,3 +761,8 @@ kept_head n due h least a z y k d = by_sort due h
 -- and what stands in parentheses that are added
 pub kept_wrapped : (due : Sort) → is_item due ≡ false → (a : List Kept) (z : State) (y : Shape) → Still a z → Leaves body z y (standing 17 (parenthesized due)) (λ _ t. Still a t)
 kept_wrapped due h a z y k d = stays_wrapped (below body d) d (stays_call (below body d) d (λ n z y. kept_call n z y d)) due h a z y k
+
+-- and what follows the first parts of a node
+pub kept_after : (n : ℕ) (own : Sort) (f : Form) (i : ℕ) (done : Listed) (ps : List Piece) → calm own false ps ≡ true → (a : List Kept) (z : State) (y : Shape) → Still a z → Leaves body z y (completed (parts_of f (in_place n)) own f i done ps) (λ _ t. Still a t)
+kept_after n own f i done ps h a z y k d = let C : (n : Rule) → is_called n ≡ true → Stays (below body d) d (Call n) = stays_call (below body d) d (λ n z y. kept_call n z y d) in
+    stays_after (below body d) d C (in_place n) (stays_in_place (below body d) d C n) own f i done ps h a z y k

@@ -31,7 +31,7 @@ use Rattle.c_lively.proofs.DueEnds.{fin_event, close, parens, fin_parameters_end
 use Rattle.c_lively.proofs.DueLeaves.{leaves_called}
 
 module _ (deep : ℕ) where
-  live_event : {A : Type 0} (e : Event) (r : Reader A) (z : State) (y : Shape) (Q : Tokens) (J : A → State → Type 0) → (may_happen e z ≡ true → Live body calls deep (happens e z) y Q J r) → Live body calls deep z y Q J (event_then e r)
+  pub live_event : {A : Type 0} (e : Event) (r : Reader A) (z : State) (y : Shape) (Q : Tokens) (J : A → State → Type 0) → (may_happen e z ≡ true → Live body calls deep (happens e z) y Q J r) → Live body calls deep z y Q J (event_then e r)
   live_event e r z y Q J R = λ place. live_choose body calls deep z y Q J (may_happen e z) (Change e r) Refuse R (λ _. tt)
 
 module _ (a : List Kept) where

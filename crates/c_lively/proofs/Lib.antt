@@ -17,3 +17,5 @@ pub mod DueEnds
 pub mod DueLives
 pub mod DueDeclarators
 pub mod AllCalls
+pub mod External
+pub mod Plain
