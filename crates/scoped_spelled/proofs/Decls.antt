@@ -1,7 +1,8 @@
 -- Nothing goes on with the specifiers of a declaration where its declarators come next.
-use Rattle.std.proofs.Common.{◌≡◌, refl, sym, subst, ◌∙◌, true, ◌&&◌, List, [], ◌++◌, append_assoc, None}
+use Rattle.std.proofs.Common.{◌≡◌, refl, ap, sym, subst, ◌∙◌, Bool, true, not, ◌&&◌, List, [], ◌∷◌, ◌++◌, append_assoc, Some, None}
 use Rattle.c_tokens.specs.declared.span.Span.{Span}
 use Rattle.c_tokens.specs.declared.token.Shape.{Shape}
+use Rattle.c_tokens.specs.declared.token.Shape.TheVariants as shape
 use Rattle.c_tokens.specs.declared.token.Punct.TheVariants as punct
 use Rattle.c_forms.specs.declared.pieces.Repetition.TheVariants.{Optional}
 use Rattle.c_forms.specs.declared.pieces.Sort.TheVariants as s
@@ -12,13 +13,14 @@ use Rattle.c_forms.specs.declared.forms.SpecForm.TheVariants as spec
 use Rattle.c_forms.specs.declared.forms.StmtForm.TheVariants as stmt
 use Rattle.c_forms.specs.declared.forms.TemplateForm.TheVariants as template
 use Rattle.c_forms.specs.declared.forms.GroupForm.TheVariants as group
-use Rattle.c_forms.specs.Forests.{Forest, empty, tree}
+use Rattle.c_forms.specs.Forests.{Plain, Forest, empty, tree}
 use Rattle.c_forms.specs.Fits.{is_list_of, all_stand}
 use Rattle.c_forms.specs.Measures.{is_plain}
 use Rattle.c_forms.specs.Places.{stands}
 use Rattle.c_forms.specs.Sets.{starts}
 use Rattle.c_reader.specs.States.{State}
 use Rattle.c_trees.specs.Counts.{pure}
+use Rattle.c_trees.specs.Valid.{valid}
 use Rattle.c_layout.specs.Spelled.{tokens, all_spelled, wholes, separated}
 use Rattle.spelled_trees.proofs.Parts.{left_of, right_of}
 use Rattle.scoped_spelled.proofs.Ready.{the_tree, placed, others, IsOff}
@@ -26,6 +28,20 @@ use Rattle.scoped_spelled.proofs.Standing.{name_of, IsValue}
 use Rattle.scoped_spelled.proofs.Heads.{Good, first_good, good_fits, placed_head}
 use Rattle.scoped_spelled.proofs.Specifiers.{a_list}
 use Rattle.scoped_spelled.proofs.Declarations.{sign_off, declarator_off}
+use Rattle.c_tokens.specs.declared.class.Class.TheVariants as class
+use Rattle.c_forms.specs.declared.forms.DeclaratorForm.{DeclaratorForm}
+use Rattle.scope_tables.specs.declared.table.WordClass.{WordClass}
+use Rattle.scope_tables.specs.Frames.{Frame, class_named}
+use Rattle.scope_meanings.specs.Meanings.{checked_if}
+use Rattle.scopes.specs.declared.event.Event.{Event}
+use Rattle.scopes.specs.Events.{events_of, declared}
+use Rattle.scopes.specs.Settling.{Scoped, settled}
+use Rattle.spelled_scopes.specs.Meant.{frames}
+use Rattle.scoped_spelled.proofs.Standing.{asks, declaring}
+use Rattle.scoped_spelled.proofs.Steps.{append_nil}
+use Rattle.scoped_spelled.proofs.Expressions.{never, never_two}
+use Rattle.scoped_spelled.proofs.Declarators.{declarator_form}
+use Rattle.scoped_spelled.proofs.Uses.{uses_name, declared_last}
 
 initializer_form : (f : Form) → is_plain f ≡ true → stands f s.Initializer ≡ true → f ≡ form.Group group.Initializer
 initializer_form (form.Group group.Initializer) p e = refl
@@ -57,3 +73,55 @@ init_declarator_off sp g gp qs k kp is u xs n v o =
     let a = a_list Optional s.Initializer k kp is empty (left_of (is_list_of Optional s.Initializer k is) true (right_of (stands g s.Declarator) _ t)) (right_of (is_plain g && pure qs) (pure (tree k kp is empty)) n.pure) in
     let zs : List Shape = separated [] 0 (wholes (all_spelled is)) ++ [] in
     subst (IsOff (starts s.Spec) u) (sym (append_assoc (placed 1 (the_tree g gp qs)) zs xs)) (declarator_off s.Spec u 1 g gp qs (zs ++ xs) refl d v (initializers_off is u xs a.1.0 a.1.1 o))
+
+init_form : (f : Form) → is_plain f ≡ true → stands f s.InitDeclarator ≡ true → f ≡ form.Group group.InitDeclarator
+init_form (form.Group group.InitDeclarator) p e = refl
+init_form (form.Group g) p e = absurd (cc e)
+init_form (form.Hole h) p e = absurd (cc p)
+init_form (form.Call n gives tail) p e = absurd (cc p)
+init_form (form.Exp (exp.Int w)) p e = absurd (cc e)
+init_form (form.Spec (spec.Storage c)) p e = absurd (cc e)
+init_form (form.Spec (spec.Qualifier q)) p e = absurd (cc e)
+init_form (form.Stmt stmt.Block) p e = absurd (cc e)
+init_form (form.Template (template.Many k)) p e = absurd (cc e)
+init_form f p e = absurd (cc e)
+
+-- the name of the first declarator is a value where no type is told
+first_value : (sp : Span) (d : DeclaratorForm) (gp : Span) (qs : Forest) (k : Form) (kp : Span) (vs : Forest) (u : State) (more : List Event) (gs : List Frame) → Good s.Declarator (the_tree (form.Declarator d) gp qs)
+    → settled (events_of (declaring u) (the_tree (form.Group group.InitDeclarator) sp (tree (form.Declarator d) gp qs (tree k kp vs empty))) ++ more) (frames u.entries) ≡ Scoped gs → IsValue u (name_of (the_tree (form.Declarator d) gp qs))
+first_value sp d gp qs k kp vs u more gs n h =
+    let D : Plain = the_tree (form.Declarator d) gp qs in
+    let w : WordClass = class_named u.kept.is_typedef in
+    let b : Bool = not u.kept.has_type in
+    let X : List Event = events_of (declaring u) (the_tree k kp vs) ++ [] in
+    let x : (((events_of (declaring u) D ++ X) ++ []) ++ more) ≡ (events_of (checked_if b) D ++ (declared w (name_of D) ++ (X ++ more))) =
+    ap (λ l. l ++ more) (append_nil (events_of (declaring u) D ++ X)) ∙ append_assoc (events_of (declaring u) D) X more ∙ ap (λ l. l ++ (X ++ more)) (declared_last w b d gp qs) ∙ append_assoc (events_of (checked_if b) D) (declared w (name_of D)) (X ++ more) in
+    (uses_name (form.Declarator d) gp qs u (declared w (name_of D) ++ (X ++ more)) gs n (ap (λ l. settled l (frames u.entries)) (sym x) ∙ h)).1
+
+first_off : (sp : Span) (ps : Forest) (u : State) (more : List Event) (gs : List Frame) (xs : List Shape) → Good s.InitDeclarator (the_tree (form.Group group.InitDeclarator) sp ps)
+    → settled (events_of (declaring u) (the_tree (form.Group group.InitDeclarator) sp ps) ++ more) (frames u.entries) ≡ Scoped gs → IsOff (starts s.Spec) u xs → IsOff (starts s.Spec) u (placed 0 (the_tree (form.Group group.InitDeclarator) sp ps) ++ xs)
+first_off sp empty u more gs xs n h o = absurd (cc (good_fits s.InitDeclarator _ n))
+first_off sp (tree g gp qs empty) u more gs xs n h o = absurd (never _ (good_fits s.InitDeclarator _ n))
+first_off sp (tree g gp qs (tree k kp vs (tree l lp es rest))) u more gs xs n h o = absurd (never_two (stands g s.Declarator) (is_list_of Optional s.Initializer k vs) (good_fits s.InitDeclarator _ n))
+first_off sp (tree g gp qs (tree k kp vs empty)) u more gs xs n h o =
+    let d = first_good s.Declarator g gp qs (tree k kp vs empty) n.pure n.valid (left_of (stands g s.Declarator) _ (good_fits s.InitDeclarator _ n)) in
+    let e = declarator_form g d.is_plain d.stands in
+    init_declarator_off sp g gp qs k kp vs u xs n (subst (λ g. Good s.Declarator (the_tree g gp qs) → settled (events_of (declaring u) (the_tree (form.Group group.InitDeclarator) sp (tree g gp qs (tree k kp vs empty))) ++ more) (frames u.entries) ≡ Scoped gs → IsValue u (name_of (the_tree g gp qs))) (sym e.1)
+    (λ d h. first_value sp e.0 gp qs k kp vs u more gs d h) d h) o
+
+-- Nothing goes on with the specifiers of a declaration where its declarators come next, or none.
+pub declarators_off : (es : Forest) (u : State) (more : List Event) (gs : List Frame) (xs : List Shape) → pure es ≡ true → valid es ≡ true → all_stand s.InitDeclarator es ≡ true → settled (asks (declaring u) es ++ more) (frames u.entries) ≡ Scoped gs
+    → IsOff (starts s.Spec) u (separated (shape.Punct punct.Comma ∷ []) 0 (wholes (all_spelled es)) ++ (shape.Punct punct.Semicolon ∷ xs))
+declarators_off empty u more gs xs p v e h = sign_off s.Spec punct.Semicolon u xs refl
+declarators_off (tree f sp ps rest) u more gs xs p v e h =
+    let n = first_good s.InitDeclarator f sp ps rest p v (left_of (stands f s.InitDeclarator) (all_stand s.InitDeclarator rest) e) in
+    let c = init_form f n.is_plain n.stands in
+    let ys : List Shape = others (Some (class.Punct punct.Comma)) 0 rest in
+    let H : settled (events_of (declaring u) (the_tree f sp ps) ++ (asks (declaring u) rest ++ more)) (frames u.entries) ≡ Scoped gs = ap (λ l. settled l (frames u.entries)) (sym (append_assoc (events_of (declaring u) (the_tree f sp ps)) (asks (declaring u) rest) more)) ∙ h in
+    subst (IsOff (starts s.Spec) u) (sym (append_assoc (placed 0 (the_tree f sp ps)) ys (shape.Punct punct.Semicolon ∷ xs)))
+    (subst (λ f. Good s.InitDeclarator (the_tree f sp ps) → settled (events_of (declaring u) (the_tree f sp ps) ++ (asks (declaring u) rest ++ more)) (frames u.entries) ≡ Scoped gs → IsOff (starts s.Spec) u (placed 0 (the_tree f sp ps) ++ (ys ++ (shape.Punct punct.Semicolon ∷ xs)))) (sym c)
+    (λ n H. first_off sp ps u (asks (declaring u) rest ++ more) gs (ys ++ (shape.Punct punct.Semicolon ∷ xs)) n H (next_off rest u xs)) n H)
+  where
+    next_off : (rest : Forest) (u : State) (xs : List Shape) → IsOff (starts s.Spec) u (others (Some (class.Punct punct.Comma)) 0 rest ++ (shape.Punct punct.Semicolon ∷ xs))
+    next_off empty u xs = sign_off s.Spec punct.Semicolon u [] refl
+    next_off (tree f sp ps rest) u xs = sign_off s.Spec punct.Comma u [] refl
