@@ -48,10 +48,10 @@ no_mark mark.Syntax h = cc h
 no_mark _ h = cc h
 
 module _ (B : Rule → Input → Outcome Found) (d : ℕ) where
-  leaving_event : {A : Type 0} (e : Event) (r : Reader A) (z : State) (y : Shape) (J : A → State → Type 0) → (may_happen e z ≡ true → Leaving B d (happens e z) y r J) → Leaving B d z y (event_then e r) J
+  pub leaving_event : {A : Type 0} (e : Event) (r : Reader A) (z : State) (y : Shape) (J : A → State → Type 0) → (may_happen e z ≡ true → Leaving B d (happens e z) y r J) → Leaving B d z y (event_then e r) J
   leaving_event e r z y J R = leaving_ask B d z y (λ i. choose (may_happen e i.state) (Change e r) Refuse) J (λ place. leaving_choose B d z y (may_happen e z) (Change e r) Refuse J (λ m. leaving_change B d z y e r J (R m)) (λ _. leaving_refuse B d z y J))
 
-  leaving_map : {A C : Type 0} (r : Reader C) (f : C → A) (P : State → Type 0) (z : State) (y : Shape) → Leaving B d z y r (λ _ t. P t) → Leaving B d z y (Bind r (λ c. Give (f c))) (λ _ t. P t)
+  pub leaving_map : {A C : Type 0} (r : Reader C) (f : C → A) (P : State → Type 0) (z : State) (y : Shape) → Leaving B d z y r (λ _ t. P t) → Leaving B d z y (Bind r (λ c. Give (f c))) (λ _ t. P t)
   leaving_map r f P z y L = leaving_bind B d z y r (λ c. Give (f c)) (λ _ t. P t) (λ _ t. P t) L (λ c t x k. leaving_give B d t x (f c) (λ _ t. P t) k)
 
   made_keeps : (part : Parts) (own : Sort) (f : Form) (i : ℕ) (done : Listed) (ps : List Piece) → StaysBy B d Due (pieces_in part own f Usual ps) → StaysBy B d Due (completed part own f i done ps)

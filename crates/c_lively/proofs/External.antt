@@ -40,7 +40,7 @@ use Rattle.c_lively.proofs.DueLives.{live_event}
 use Rattle.c_lively.proofs.DueLeaves.{leaves_declarator}
 use Rattle.c_lively.proofs.DueDeclarators.{live_due}
 
-abbrev inner : Parts
+abbrev pub inner : Parts
 inner = in_place 8
 
 abbrev E : Ending inner (reads 8)
@@ -52,22 +52,22 @@ anywhere = none_of []
 abbrev end_words : List Shape
 end_words = shape.Punct punct.Semicolon ∷ []
 
-abbrev after_declarators : List Piece
+abbrev pub after_declarators : List Piece
 after_declarators = after_first (after_first (pieces form.Decl))
 
-abbrev function_form : Form
+abbrev pub function_form : Form
 function_form = form.Item item.Function
 
-abbrev body_pieces : List Piece
+abbrev pub body_pieces : List Piece
 body_pieces = after_first (after_first (after_first (pieces function_form)))
 
-abbrev first_declarator : Form
+abbrev pub first_declarator : Form
 first_declarator = form.Group group.InitDeclarator
 
 abbrev by_commas : Repetition
 by_commas = Spliced (Some (sign punct.Comma)) 0
 
-abbrev two : Found → Found → Listed
+abbrev pub two : Found → Found → Listed
 two x y = record { trees = x.tree ∷ (y.tree ∷ []); height = max x.height y.height }
 
 module _ (deep : ℕ) (a : List Kept) where
@@ -79,10 +79,10 @@ module _ (deep : ℕ) (a : List Kept) where
 
   -- ---- a declaration after its declarators
 
-  abbrev in_item : ℕ → Found → Reader Found
+  abbrev pub in_item : ℕ → Found → Reader Found
   in_item i x = Ask (λ j. Give (node (form.Item item.Declaration) i j.place (one x)))
 
-  abbrev ended : ℕ → Found → Found → Reader Found
+  abbrev pub ended : ℕ → Found → Found → Reader Found
   ended i specs list = completed inner s.Decl form.Decl i (two specs list) after_declarators
 
   fin_in_item : (i : ℕ) (x : Found) (t : State) → Still a t → Finishes body t anywhere Held (in_item i x) []
@@ -102,13 +102,13 @@ module _ (deep : ℕ) (a : List Kept) where
   abbrev between : Tokens
   between = none_of (group_past by_commas s.InitDeclarator 0)
 
-  abbrev first_of_them : ℕ → Found → Reader Found
+  abbrev pub first_of_them : ℕ → Found → Reader Found
   first_of_them j d = after_part inner s.InitDeclarator first_declarator j d
 
-  abbrev the_others : ℕ → Found → Spot → Reader Gathered
+  abbrev pub the_others : ℕ → Found → Spot → Reader Gathered
   the_others j x k = others by_commas s.InitDeclarator (inner s.InitDeclarator 0) (with_last (none_at j) x k.place)
 
-  abbrev pieces_of_first : List Piece
+  abbrev pub pieces_of_first : List Piece
   pieces_of_first = after_first (pieces first_declarator)
 
   fin_others : (j : ℕ) (x : Found) (t : State) → Still a t → Finishes body t between Held (Ask (the_others j x)) []
@@ -117,7 +117,7 @@ module _ (deep : ℕ) (a : List Kept) where
   fin_first : (j : ℕ) (d : Found) (t : State) → Still a t → Finishes body t between Held (first_of_them j d) []
   fin_first j d t k = fin_completed (Still a) between inner s.InitDeclarator first_declarator j (one d) pieces_of_first t [] (fin_pieces inner s.InitDeclarator first_declarator (reads 8) E (group_past by_commas s.InitDeclarator 0) false Usual pieces_of_first refl a t k)
 
-  leaves_others : (j : ℕ) (x : Found) (t : State) (y : Shape) → Still a t → Leaves body t y (Ask (the_others j x)) Held
+  pub leaves_others : (j : ℕ) (x : Found) (t : State) (y : Shape) → Still a t → Leaves body t y (Ask (the_others j x)) Held
   leaves_others j x t y k d = leaving_ask (below body d) d t y (the_others j x) Held (λ place. stays_others (below body d) d Still by_commas s.InitDeclarator (inner s.InitDeclarator 0) (with_last (none_at j) x place)
       (λ a z y k. kept_in_place 8 s.InitDeclarator 0 a z y refl k d) a t y k)
 
@@ -125,10 +125,10 @@ module _ (deep : ℕ) (a : List Kept) where
   live_others j x t y k = λ place. live_more (Still a) s.InitDeclarator 0 (inner s.InitDeclarator 0) (λ h. absurd (cc h)) (E.ends s.InitDeclarator 0 refl a) calls deep (λ z y k. L.lives s.InitDeclarator 0 refl a z y k) (λ z y k. L.leaves s.InitDeclarator 0 refl a z y k)
       by_commas (bounded_group by_commas s.InitDeclarator (inner s.InitDeclarator 0) refl refl (λ h. absurd (cc h))) (with_last (none_at j) x place) t y k
 
-  abbrev declared_so : ℕ → Found → ℕ → Gathered → Reader Found
+  abbrev pub declared_so : ℕ → Found → ℕ → Gathered → Reader Found
   declared_so i specs j g = declaration_of inner i specs (list_from j g)
 
-  abbrev more_of_them : ℕ → Found → ℕ → Found → Reader Found
+  abbrev pub more_of_them : ℕ → Found → ℕ → Found → Reader Found
   more_of_them i specs j x = Bind (Ask (the_others j x)) (declared_so i specs j)
 
   fin_more_of_them : (i : ℕ) (specs : Found) (j : ℕ) (x : Found) (t : State) → Still a t → Finishes body t anywhere Held (more_of_them i specs j x) end_words
@@ -180,7 +180,7 @@ module _ (deep : ℕ) (a : List Kept) where
   live_outer i specs t y k = λ place. live_bind body calls deep t y Held Held (none_of (goes_on s.Declarator 1)) anywhere Held (inner s.Declarator 1) (λ d. outer_by false inner i specs place d) (L.lives s.Declarator 1 refl a t y k) (L.leaves s.Declarator 1 refl a t y k)
       (record { tokens = end_words; opens = opens_if (goes_on s.Declarator 1) end_words [] refl; finishes = λ d t k. fin_undecided i specs place d t k }) (λ d t w k. live_undecided i specs place d t w k)
 
-  abbrev after_specs : ℕ → Found → Reader Found
+  abbrev pub after_specs : ℕ → Found → Reader Found
   after_specs i specs = Ask (λ j. Look (λ y. choose (is_sign punct.Semicolon y) (declaration_of inner i specs (list_from j.place (none_at j.place))) (outer false inner i specs)))
 
   fin_after_specs : (i : ℕ) (specs : Found) (t : State) → Still a t → Finishes body t anywhere Held (after_specs i specs) end_words
@@ -196,7 +196,7 @@ module _ (deep : ℕ) (a : List Kept) where
   abbrev some_specs : Reader (ℕ × Gathered)
   some_specs = gathered All s.Spec (inner s.Spec 0) Usual
 
-  leaves_specs : (t : State) (y : Shape) → Still a t → Leaves body t y (grouped All s.Spec (inner s.Spec 0) Usual) Held
+  pub leaves_specs : (t : State) (y : Shape) → Still a t → Leaves body t y (grouped All s.Spec (inner s.Spec 0) Usual) Held
   leaves_specs t y k d = leaving_bind (below body d) d t y some_specs (λ g. Give (list_from g.0 g.1)) Held Held (stays_gathered (below body d) d Still All s.Spec (inner s.Spec 0) Usual (λ a z y k. L.leaves s.Spec 0 refl a z y k d) a t y k)
       (λ g t w k. leaving_give (below body d) d t w (list_from g.0 g.1) Held k)
 

@@ -19,3 +19,4 @@ pub mod DueDeclarators
 pub mod AllCalls
 pub mod External
 pub mod Plain
+pub mod Between

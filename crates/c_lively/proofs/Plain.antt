@@ -22,10 +22,10 @@ use Rattle.c_lively.proofs.External.{live_external}
 abbrev pub Idle : State → Type 0
 Idle z = (z.kept ≡ nothing_kept) × (z.aside ≡ [])
 
-idle_still : (z : State) → Idle z → Still [] z
+pub idle_still : (z : State) → Idle z → Still [] z
 idle_still z k = (k.1, ap (λ kept. kept.is_function_due) k.0)
 
-idle_due : (z : State) → Idle z → Due [] (happens event.FunctionDue z)
+pub idle_due : (z : State) → Idle z → Due [] (happens event.FunctionDue z)
 idle_due z k = (k.1, (refl, ap (λ kept. is_other kept.near) k.0))
 
 pub live_item : (z : State) (y : Shape) → Idle z → Live body calls 0 z y (none_of []) (λ _ t. Still [] t) item_reader
