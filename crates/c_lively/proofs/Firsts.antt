@@ -120,7 +120,7 @@ module _ (a : List Kept) where
       finishes : Finishes body z beyond Held (primary inner 1) (y ∷ words)
 
     is_prefixed : (p : Punct) → nat_eq (class_number (sign p)) (class_number (sign punct.LeftParen)) ≡ false → has (starts s.Exp) (class_number (sign p)) ≡ true → prefixed (shape.Punct p) (begun s.Exp (shape.Punct p)) ≡ true
-    is_prefixed punct.LeftBracket e h = cc h
+    is_prefixed punct.LeftBracket e h = h
     is_prefixed punct.LeftParen e h = absurd (cc e)
     is_prefixed p e h = cc h
 
