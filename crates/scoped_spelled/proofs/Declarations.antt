@@ -183,7 +183,7 @@ enumerators_ready own sp (tree k kp es empty) i after t p h =
 
 -- ---- type names
 
-no_type : (u : State) → u.kept ≡ nothing_kept → (ts : Forest) → are_specifiers ts ≡ true → Allows u.kept.has_type u.kept.is_sole ts
+pub no_type : (u : State) → u.kept ≡ nothing_kept → (ts : Forest) → are_specifiers ts ≡ true → Allows u.kept.has_type u.kept.is_sole ts
 no_type u e ts r = subst (λ (k : Kept). Allows k.has_type k.is_sole ts) (sym e) (allows_all ts r)
 
 not_true : (b : Bool) → not b ≡ true → b ≡ false

@@ -1,5 +1,5 @@
 -- Nothing goes on with the specifiers of a declaration where its declarators come next.
-use Rattle.std.proofs.Common.{◌≡◌, refl, ap, sym, subst, ◌∙◌, Bool, true, not, ◌&&◌, List, [], ◌∷◌, ◌++◌, append_assoc, Some, None}
+use Rattle.std.proofs.Common.{◌≡◌, refl, ap, sym, subst, ◌∙◌, Bool, true, not, ◌&&◌, ◌||◌, List, [], ◌∷◌, ◌++◌, append_assoc, Some, None}
 use Rattle.c_tokens.specs.declared.span.Span.{Span}
 use Rattle.c_tokens.specs.declared.token.Shape.{Shape}
 use Rattle.c_tokens.specs.declared.token.Shape.TheVariants as shape
@@ -42,6 +42,22 @@ use Rattle.scoped_spelled.proofs.Steps.{append_nil}
 use Rattle.scoped_spelled.proofs.Expressions.{never, never_two}
 use Rattle.scoped_spelled.proofs.Declarators.{declarator_form}
 use Rattle.scoped_spelled.proofs.Uses.{uses_name, declared_last}
+use Rattle.c_forms.specs.declared.pieces.Event.TheVariants as event
+use Rattle.c_forms.specs.declared.pieces.Sort.{Sort}
+use Rattle.c_forms.specs.Measures.{pieces}
+use Rattle.c_forms.specs.Rules.{are_specifiers, is_nothing, among_rules}
+use Rattle.c_reader.specs.States.{Kept, happens}
+use Rattle.c_reader.specs.Tokens.{Spot}
+use Rattle.c_syntax.specs.Reading.{Usual}
+use Rattle.scope_meanings.specs.declared.meaning.NameUse.{NameUse}
+use Rattle.scope_meanings.specs.declared.meaning.NameUse.TheVariants as naming
+use Rattle.scope_meanings.specs.Meanings.{has_type, has_typedef}
+use Rattle.scoped_spelled.proofs.Standing.{IsCalm, Calms}
+use Rattle.scoped_spelled.proofs.Calm.{RowReady, AreReady}
+use Rattle.scoped_spelled.proofs.Specifiers.{specs_ready}
+use Rattle.scoped_spelled.proofs.Uses.{all_free}
+use Rattle.scoped_spelled.proofs.Members.{inits_ready}
+use Rattle.scoped_spelled.proofs.Declarations.{two_rules, no_type}
 
 initializer_form : (f : Form) → is_plain f ≡ true → stands f s.Initializer ≡ true → f ≡ form.Group group.Initializer
 initializer_form (form.Group group.Initializer) p e = refl
@@ -125,3 +141,28 @@ declarators_off (tree f sp ps rest) u more gs xs p v e h =
     next_off : (rest : Forest) (u : State) (xs : List Shape) → IsOff (starts s.Spec) u (others (Some (class.Punct punct.Comma)) 0 rest ++ (shape.Punct punct.Semicolon ∷ xs))
     next_off empty u xs = sign_off s.Spec punct.Semicolon u [] refl
     next_off (tree f sp ps rest) u xs = sign_off s.Spec punct.Comma u [] refl
+
+-- ---- declarations
+
+decl_row : (own : Sort) (sp lp : Span) (ss : Forest) (mp : Span) (es : Forest) (i : Spot) (after : List Shape) → pure ss ≡ true → all_stand s.Spec ss ≡ true → pure es ≡ true → valid es ≡ true → all_stand s.InitDeclarator es ≡ true
+    → is_nothing (among_rules form.Decl (tree (form.Group group.List) lp ss (tree (form.Group group.List) mp es empty))) ≡ true → IsCalm (the_tree form.Decl sp (tree (form.Group group.List) lp ss (tree (form.Group group.List) mp es empty))) i.state
+    → RowReady own form.Decl Usual (pieces form.Decl) (tree (form.Group group.List) lp ss (tree (form.Group group.List) mp es empty)) i after (λ j. Calms (the_tree form.Decl sp (tree (form.Group group.List) lp ss (tree (form.Group group.List) mp es empty))) i.state j.state)
+decl_row own sp lp ss mp es i after p a o v b q h =
+    let T : Plain = the_tree form.Decl sp (tree (form.Group group.List) lp ss (tree (form.Group group.List) mp es empty)) in
+    let U : NameUse = naming.Declared (class_named (has_typedef ss)) (not (has_type ss)) in
+    let gs = h.1.0 in
+    let r = two_rules (are_specifiers ss) _ _ q in
+    let x : (((asks U ss ++ []) ++ ((asks U es ++ []) ++ [])) ++ []) ≡ (asks naming.Nothing ss ++ (asks U es ++ [])) =
+    append_nil _ ∙ ap (λ l. l ++ ((asks U es ++ []) ++ [])) (append_nil _ ∙ all_free U s.Spec ss refl p a) ∙ ap (λ l. asks naming.Nothing ss ++ l) (append_nil _) in
+    let H : settled (asks naming.Nothing ss ++ (asks U es ++ [])) (frames i.state.entries) ≡ Scoped gs = ap (λ l. settled l (frames i.state.entries)) (sym x) ∙ h.1.1 in
+    let front : List Shape = separated (shape.Punct punct.Comma ∷ []) 0 (wholes (all_spelled es)) in
+    let L : Spot → Type 0 = λ m. (true ≡ true) × Calms T i.state (happens event.Begin m.state) in
+    let K : Spot → Type 0 = λ j. IsOff (starts s.Spec) j.state ((front ++ (shape.Punct punct.Semicolon ∷ [])) ++ after) × AreReady s.InitDeclarator 0 (Some (class.Punct punct.Comma)) es j (shape.Punct punct.Semicolon ∷ after) L in
+    specs_ready s.Spec ss i ((front ++ (shape.Punct punct.Semicolon ∷ [])) ++ after) (asks U es ++ []) gs K refl (no_type i.state h.0 ss r.0) H (λ j S.
+    let typed : j.state.kept.has_type ≡ has_type ss = S.typed ∙ ap (λ (k : Kept). k.has_type || has_type ss) h.0 in
+    let typedef : j.state.kept.is_typedef ≡ has_typedef ss = S.typedef ∙ ap (λ (k : Kept). k.is_typedef || has_typedef ss) h.0 in
+    let e : declaring j.state ≡ U = ap (λ x. naming.Declared (class_named x) (not j.state.kept.has_type)) typedef ∙ ap (λ x. naming.Declared (class_named (has_typedef ss)) (not x)) typed in (
+      subst (IsOff (starts s.Spec) j.state) (sym (append_assoc front (shape.Punct punct.Semicolon ∷ []) after)) (declarators_off es j.state [] gs after o v b (subst (λ u. settled (asks u es ++ []) (frames j.state.entries) ≡ Scoped gs) (sym e) S.holds)),
+      inits_ready (class.Punct punct.Comma) es j (shape.Punct punct.Semicolon ∷ after) U gs L e (S.due ∙ ap (λ (k : Kept). k.is_function_due) h.0) S.holds
+          (λ m f c. (refl, (record { scoped = h.1.1 ∙ ap Scoped (sym f); aside = c ∙ S.aside }, refl))),
+    ))

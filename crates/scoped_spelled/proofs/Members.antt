@@ -197,7 +197,7 @@ inits_after c (tree f sp ps rest) i after u gs a K e due x h k =
       ),
     )
 
-inits_ready : (c : Class) (es : Forest) (i : Spot) (after : List Shape) (u : NameUse) (gs : List Frame) (K : Spot → Type 0) → declaring i.state ≡ u → i.state.kept.is_function_due ≡ false → settled (asks u es ++ []) (frames i.state.entries) ≡ Scoped gs
+pub inits_ready : (c : Class) (es : Forest) (i : Spot) (after : List Shape) (u : NameUse) (gs : List Frame) (K : Spot → Type 0) → declaring i.state ≡ u → i.state.kept.is_function_due ≡ false → settled (asks u es ++ []) (frames i.state.entries) ≡ Scoped gs
     → ((j : Spot) → frames j.state.entries ≡ gs → j.state.aside ≡ i.state.aside → K j) → AreReady s.InitDeclarator 0 (Some c) es i after K
 inits_ready c empty i after u gs K e due h k = k i (one_end (frames i.state.entries) gs h) refl
 inits_ready c (tree f sp ps rest) i after u gs K e due h k =
