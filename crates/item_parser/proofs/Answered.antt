@@ -9,7 +9,7 @@ use Rattle.scope_tables.specs.Frames.{Frame}
 use Rattle.c_reader.specs.declared.refusal.Refusal.{Refusal}
 use Rattle.c_reader.specs.declared.refusal.Refusal.TheVariants.{Memory, Syntax, TooDeep}
 use Rattle.c_reader.specs.Tokens.{spot}
-use Rattle.c_reader.specs.Laws.{from, IsRead}
+use Rattle.c_reader.specs.Laws.{from, Completion, IsRead}
 use Rattle.c_reader.specs.Readers.{Input, Outcome, Found, read}
 use Rattle.c_reader.proofs.Finished.{dead, too_deep}
 use Rattle.c_syntax.specs.Grammar.{body, item_reader}
@@ -19,17 +19,31 @@ use Rattle.c_spelled.proofs.Complete.{complete_at}
 use Rattle.spelled_trees.proofs.Low.{spelled_low}
 use Rattle.spelled_trees.proofs.Trees.{telling, spelled_item}
 use Rattle.c_alive.proofs.Tame.{bodies, tame_item}
+use Rattle.c_lively.proofs.Plain.{item_first_dead, item_only_deep}
 use Rattle.draft_trees.specs.Placing.{placed}
 use Rattle.draft_trees.specs.Right.{IsRight}
 use Rattle.item_parser.specs.Answers.{IsNext, Gives, Settles, answer_of}
 use Rattle.item_parser.proofs.Settled.{settles}
 use Rattle.table_parser.specs.Cursors.{shape_of}
-use Rattle.item_parser.specs.Readings.{start, Reading, Dead, DeepDead}
+use Rattle.item_parser.specs.Readings.{start, Reading, Dead, DeepDead, Live, IsFirstDead, IsTooDeep}
 
 module _ (frames : List Frame) (w : List Shape) (at : ℕ) where
+  spelled_at : (d : ℕ) (v : List Shape) (x : Found) (p : Input) → read body d item_reader (from v (start frames at)) ≡ Ok (x, p) → Reading d frames v at x.tree p.at.place
+  spelled_at d v x p e = let S = sound d v sort.Item 0 (start frames at) x p refl e in
+      record { after = p.at.state; spelled = subst (Spells d v sort.Item 0 x.tree (start frames at)) (ap (λ q. q.at) (sym S.placed)) (S.spelled d S.high) }
+
   pub is_spelled : (x : Found) (p : Input) → answer_of frames w at ≡ Ok (x, p) → Reading 1000 frames w at x.tree p.at.place
-  is_spelled x p e = let S = sound 1000 w sort.Item 0 (start frames at) x p refl e in
-      record { after = p.at.state; spelled = subst (Spells 1000 w sort.Item 0 x.tree (start frames at)) (ap (λ q. q.at) (sym S.placed)) (S.spelled 1000 S.high) }
+  is_spelled x p e = spelled_at 1000 w x p e
+
+  is_live : (k : ℕ) → Completion body item_reader (start frames at) w k → Live frames w at k
+  is_live k C = record {
+    others = C.source;
+    agrees = C.agrees;
+    depth = C.is_read.levels;
+    item = C.is_read.answer.tree;
+    «end» = C.is_read.after.place;
+    reading = spelled_at C.is_read.levels C.source C.is_read.answer (from C.source C.is_read.after) C.is_read.reads;
+  }
 
   pub is_right : (t : Plain) (end : ℕ) → Reading 1000 frames w at t end → IsRight t
   is_right t end R = record {
@@ -51,6 +65,12 @@ module _ (frames : List Frame) (w : List Shape) (at : ℕ) where
   pub is_deep_dead : (k : ℕ) → answer_of frames w at ≡ Err (TooDeep k) → DeepDead 1000 frames w at k
   is_deep_dead k e v a depth t end le R = let G = is_read 1000 v depth t end le R in
       too_deep body bodies item_reader tame_item (start frames at) 1000 w k e v a (record { levels = 1000; allowed = omega arith; answer = G.answer; after = G.after; reads = subst (λ d. read body d item_reader (from v (start frames at)) ≡ Ok (G.answer, from v G.after)) G.allowed G.reads })
+
+  pub is_first_dead : (k : ℕ) → answer_of frames w at ≡ Err (Syntax k) → IsFirstDead frames w at k
+  is_first_dead k e = let F = item_first_dead (start frames at) (refl, refl) 1000 w k e in (is_dead k e, λ p le less. is_live p (F.1 p le less))
+
+  pub is_too_deep : (k : ℕ) → answer_of frames w at ≡ Err (TooDeep k) → IsTooDeep 1000 frames w at k
+  is_too_deep k e = let F = item_only_deep (start frames at) (refl, refl) 1000 w k e in (is_deep_dead k e, is_live k F.1)
 
   -- what has a reading within the limit is answered
   pub is_answered : (depth : ℕ) (t : Plain) (end : ℕ) → depth ≤ 1000 → Reading depth frames w at t end → (x : Found) × ((p : Input) × ((answer_of frames w at ≡ Ok (x, p)) × ((x.tree ≡ t) × (p.at.place ≡ end))))

@@ -1,5 +1,5 @@
 -- Items that tokens spell under scopes, and tokens at which no source has one.
-use Rattle.std.specs.Prelude.{◌≤◌, ℕ, List}
+use Rattle.std.specs.Prelude.{◌≤◌, ◌<◌, ℕ, List}
 use Rattle.c_tokens.specs.declared.token.Shape.{Shape}
 use Rattle.c_forms.specs.declared.pieces.Sort.TheVariants as sort
 use Rattle.c_forms.specs.Forests.{Plain}
@@ -25,3 +25,22 @@ Dead frames tokens at k = (others : List Shape) → Agree k tokens others → (d
 -- none has a reading within the limit
 abbrev pub DeepDead : ℕ → List Frame → List Shape → ℕ → ℕ → Type 0
 DeepDead limit frames tokens at k = (others : List Shape) → Agree k tokens others → (depth : ℕ) (item : Plain) (end : ℕ) → depth ≤ limit → Reading depth frames others at item end → ⊥
+
+-- ---- the first place
+
+-- some tokens that are the same through place k have a reading, of some depth
+pub record Live (frames : List Frame) (tokens : List Shape) (at k : ℕ) : Type 0 where
+  pub others : List Shape
+  pub agrees : Agree k tokens others
+  pub depth : ℕ
+  pub item : Plain
+  pub end : ℕ
+  pub reading : Reading depth frames others at item end
+
+-- place k is the first of the item that no source has
+abbrev pub IsFirstDead : List Frame → List Shape → ℕ → ℕ → Type 0
+IsFirstDead frames tokens at k = Dead frames tokens at k × ((p : ℕ) → at ≤ p → p < k → Live frames tokens at p)
+
+-- some source has place k, and none within the limit
+abbrev pub IsTooDeep : ℕ → List Frame → List Shape → ℕ → ℕ → Type 0
+IsTooDeep limit frames tokens at k = DeepDead limit frames tokens at k × Live frames tokens at k

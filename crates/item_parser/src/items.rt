@@ -8,7 +8,7 @@ ghost use Rattle.c_reader.specs.declared.refusal.Refusal.TheVariants as refusal;
 ghost use Rattle.draft_trees.specs.Placing.{placed};
 ghost use Rattle.draft_trees.specs.Right.{IsRight};
 ghost use Rattle.item_parser.specs.Answers.{Finds, Gives, IsNext, answer_of};
-ghost use Rattle.item_parser.specs.Readings.{Dead, DeepDead, Reading};
+ghost use Rattle.item_parser.specs.Readings.{IsFirstDead, IsTooDeep, Reading};
 ghost use Rattle.table_parser.specs.Cursors.{shape_of};
 
 use c_forms::Sort;
@@ -36,8 +36,8 @@ pub fn read_item(
     requires inside { at ≤ length tokens.now }
     ensures read { IfOk result (λ answer. IsNext tokens.now scopes.old at answer) }
     ensures complete { (depth : ℕ) (item : Plain) (end : ℕ) → depth ≤ 1000 → Reading depth scopes.old (map shape_of tokens.now) at item end → Gives (placed tokens.now item, end) result }
-    ensures syntax { (k : ℕ) → result ≡ Err (refusal.Syntax k) → Dead scopes.old (map shape_of tokens.now) at k }
-    ensures too_deep { (k : ℕ) → result ≡ Err (refusal.TooDeep k) → DeepDead 1000 scopes.old (map shape_of tokens.now) at k }
+    ensures syntax { (k : ℕ) → result ≡ Err (refusal.Syntax k) → IsFirstDead scopes.old (map shape_of tokens.now) at k }
+    ensures too_deep { (k : ℕ) → result ≡ Err (refusal.TooDeep k) → IsTooDeep 1000 scopes.old (map shape_of tokens.now) at k }
     ensures kept { scopes.new ≡ scopes.old }
 {
     match next_found(alloc, tokens, at, scopes) {

@@ -1,7 +1,7 @@
 use Rattle.std.proofs.Common.{map}
 use Rattle.item_parser.specs.Answers.{answer_of}
 use Rattle.table_parser.specs.Cursors.{shape_of}
-use Rattle.item_parser.proofs.Answered.{draft_right, tree_stands, is_next, is_given, is_answered, is_dead, is_deep_dead, only_memory, refused_with, lacking_with}
+use Rattle.item_parser.proofs.Answered.{draft_right, tree_stands, is_next, is_given, is_answered, is_first_dead, is_too_deep, only_memory, refused_with, lacking_with}
 use Rattle.item_parser.proofs.items.read_item.Goals as goal
 
 pub placed_tree-tree-requires : goal.placed_tree-tree-requires
@@ -22,7 +22,7 @@ returns-in-Err-clause-complete c depth item end le R =
     only_memory (answer_of c.args.scopes.now (map shape_of c.args.tokens.now) c.args.at) (A.0, A.1.0) c.in-Err.refusal A.1.1.0 c.in-Err.ensures.finds
 
 pub returns-in-Err-clause-syntax : goal.returns-in-Err-clause-syntax
-returns-in-Err-clause-syntax c k e = is_dead c.args.scopes.now (map shape_of c.args.tokens.now) c.args.at k (refused_with _ c.in-Err.refusal k e c.in-Err.ensures.finds)
+returns-in-Err-clause-syntax c k e = is_first_dead c.args.scopes.now (map shape_of c.args.tokens.now) c.args.at k (refused_with _ c.in-Err.refusal k e c.in-Err.ensures.finds)
 
 pub returns-in-Err-clause-too_deep : goal.returns-in-Err-clause-too_deep
-returns-in-Err-clause-too_deep c k e = is_deep_dead c.args.scopes.now (map shape_of c.args.tokens.now) c.args.at k (lacking_with _ c.in-Err.refusal k e c.in-Err.ensures.finds)
+returns-in-Err-clause-too_deep c k e = is_too_deep c.args.scopes.now (map shape_of c.args.tokens.now) c.args.at k (lacking_with _ c.in-Err.refusal k e c.in-Err.ensures.finds)
