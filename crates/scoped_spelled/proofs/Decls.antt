@@ -4,7 +4,7 @@ use Rattle.c_tokens.specs.declared.span.Span.{Span}
 use Rattle.c_tokens.specs.declared.token.Shape.{Shape}
 use Rattle.c_tokens.specs.declared.token.Shape.TheVariants as shape
 use Rattle.c_tokens.specs.declared.token.Punct.TheVariants as punct
-use Rattle.c_forms.specs.declared.pieces.Repetition.TheVariants.{Optional}
+use Rattle.c_forms.specs.declared.pieces.Repetition.TheVariants.{Optional, All, Spliced}
 use Rattle.c_forms.specs.declared.pieces.Sort.TheVariants as s
 use Rattle.c_forms.specs.declared.forms.Form.{Form}
 use Rattle.c_forms.specs.declared.forms.Form.TheVariants as form
@@ -14,7 +14,7 @@ use Rattle.c_forms.specs.declared.forms.StmtForm.TheVariants as stmt
 use Rattle.c_forms.specs.declared.forms.TemplateForm.TheVariants as template
 use Rattle.c_forms.specs.declared.forms.GroupForm.TheVariants as group
 use Rattle.c_forms.specs.Forests.{Plain, Forest, empty, tree}
-use Rattle.c_forms.specs.Fits.{is_list_of, all_stand}
+use Rattle.c_forms.specs.Fits.{fits, is_list_of, all_stand}
 use Rattle.c_forms.specs.Measures.{is_plain}
 use Rattle.c_forms.specs.Places.{stands}
 use Rattle.c_forms.specs.Sets.{starts}
@@ -25,7 +25,7 @@ use Rattle.c_layout.specs.Spelled.{tokens, all_spelled, wholes, separated}
 use Rattle.spelled_trees.proofs.Parts.{left_of, right_of}
 use Rattle.scoped_spelled.proofs.Ready.{the_tree, placed, others, IsOff}
 use Rattle.scoped_spelled.proofs.Standing.{name_of, IsValue}
-use Rattle.scoped_spelled.proofs.Heads.{Good, first_good, good_fits, placed_head}
+use Rattle.scoped_spelled.proofs.Heads.{parts_of, Good, first_good, good_fits, placed_head}
 use Rattle.scoped_spelled.proofs.Specifiers.{a_list}
 use Rattle.scoped_spelled.proofs.Declarations.{sign_off, declarator_off}
 use Rattle.c_tokens.specs.declared.class.Class.TheVariants as class
@@ -45,7 +45,7 @@ use Rattle.scoped_spelled.proofs.Uses.{uses_name, declared_last}
 use Rattle.c_forms.specs.declared.pieces.Event.TheVariants as event
 use Rattle.c_forms.specs.declared.pieces.Sort.{Sort}
 use Rattle.c_forms.specs.Measures.{pieces}
-use Rattle.c_forms.specs.Rules.{are_specifiers, is_nothing, among_rules}
+use Rattle.c_forms.specs.Rules.{is_right, are_specifiers, is_nothing, among_rules}
 use Rattle.c_reader.specs.States.{Kept, happens}
 use Rattle.c_reader.specs.Tokens.{Spot}
 use Rattle.c_syntax.specs.Reading.{Usual}
@@ -166,3 +166,21 @@ decl_row own sp lp ss mp es i after p a o v b q h =
       inits_ready (class.Punct punct.Comma) es j (shape.Punct punct.Semicolon ∷ after) U gs L e (S.due ∙ ap (λ (k : Kept). k.is_function_due) h.0) S.holds
           (λ m f c. (refl, (record { scoped = h.1.1 ∙ ap Scoped (sym f); aside = c ∙ S.aside }, refl))),
     ))
+
+pub decl_ready : (own : Sort) (sp : Span) (ts : Forest) (i : Spot) (after : List Shape) → fits (pieces form.Decl) ts ≡ true → pure ts ≡ true → valid ts ≡ true → is_nothing (among_rules form.Decl ts) ≡ true → IsCalm (the_tree form.Decl sp ts) i.state
+    → RowReady own form.Decl Usual (pieces form.Decl) ts i after (λ j. Calms (the_tree form.Decl sp ts) i.state j.state)
+decl_ready own sp empty i after t p v q h = absurd (cc t)
+decl_ready own sp (tree f fp ss empty) i after t p v q h = absurd (never _ t)
+decl_ready own sp (tree f fp ss (tree g gp es (tree k kp vs rest))) i after t p v q h = absurd (never_two (is_list_of All s.Spec f ss) (is_list_of (Spliced (Some (class.Punct punct.Comma)) 0) s.InitDeclarator g es) t)
+decl_ready own sp (tree f fp ss (tree g gp es empty)) i after t p v q h =
+    let l = left_of (is_list_of All s.Spec f ss) _ t in
+    let m = left_of (is_list_of (Spliced (Some (class.Punct punct.Comma)) 0) s.InitDeclarator g es) true (right_of (is_list_of All s.Spec f ss) _ t) in
+    let o = right_of (is_plain f && pure ss) (pure (tree g gp es empty)) p in
+    let w = right_of (is_right f ss && valid ss) (valid (tree g gp es empty)) v in
+    let a = a_list All s.Spec f fp ss (tree g gp es empty) l p in
+    let b = a_list (Spliced (Some (class.Punct punct.Comma)) 0) s.InitDeclarator g gp es empty m o in
+    let d = parts_of g gp es empty o w in
+    subst (λ f. is_nothing (among_rules form.Decl (tree f fp ss (tree g gp es empty))) ≡ true → IsCalm (the_tree form.Decl sp (tree f fp ss (tree g gp es empty))) i.state → RowReady own form.Decl Usual (pieces form.Decl) (tree f fp ss (tree g gp es empty)) i after (λ j. Calms (the_tree form.Decl sp (tree f fp ss (tree g gp es empty))) i.state j.state)) (sym a.0)
+    (λ q h. subst (λ g. is_nothing (among_rules form.Decl (tree (form.Group group.List) fp ss (tree g gp es empty))) ≡ true → IsCalm (the_tree form.Decl sp (tree (form.Group group.List) fp ss (tree g gp es empty))) i.state
+    → RowReady own form.Decl Usual (pieces form.Decl) (tree (form.Group group.List) fp ss (tree g gp es empty)) i after (λ j. Calms (the_tree form.Decl sp (tree (form.Group group.List) fp ss (tree g gp es empty))) i.state j.state)) (sym b.0)
+    (λ q h. decl_row own sp fp ss gp es i after a.1.0 a.1.1 d.0 d.1 b.1.1 q h) q h) q h
