@@ -46,8 +46,3 @@ module _ (a : List Kept) (n least deep : ℕ) (low : is_reached s.Exp least ≡ 
   unfolding expression
   live_expression z y k = λ place. live_bind body calls deep z y Held Held past past Held (primary (in_place (suc n)) least) (λ y. climb s.Exp least place y) (live_primary z y k) (kept_primary (suc n) least a z y k)
       (record { tokens = []; opens = λ x q. q; finishes = λ y t k. fin_climb s.Exp least place (Still a) past (λ y z x q. exp_over least z y x q) t y k }) (λ y t x k. live_climbing least place a deep t x y k)
-
--- wherever they stand in a node that is read in place
-pub live_exp : (a : List Kept) (n least deep : ℕ) → is_reached s.Exp least ≡ true → (z : State) (y : Shape) → Still a z → Live body calls deep z y (none_of (goes_on s.Exp least)) (λ _ t. Still a t) (in_place (suc (suc n)) s.Exp least)
-unfolding in_place
-live_exp a n least deep low z y k = live_expression a n least deep low z y k

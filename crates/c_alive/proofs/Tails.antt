@@ -105,6 +105,3 @@ tails_within due l m le (p ∷ ps) = within_all (given (tight_enough l (continue
 
 pub exp_within : (l m : ℕ) → m ≤ l → within (goes_on s.Exp l) (goes_on s.Exp m) ≡ true
 exp_within l m le = within_before (tails s.Exp l all_puncts) (class_number class.Str ∷ []) (tails s.Exp m all_puncts) (tails_within s.Exp l m le all_puncts)
-
-pub declarator_within : (l m : ℕ) → m ≤ l → within (goes_on s.Declarator l) (goes_on s.Declarator m) ≡ true
-declarator_within l m le = tails_within s.Declarator l m le all_puncts
