@@ -39,13 +39,13 @@ use Rattle.scopes.specs.Settling.{Scoped, settled}
 use Rattle.spelled_scopes.specs.Meant.{frames}
 use Rattle.spelled_trees.specs.Told.{is_named}
 use Rattle.spelled_trees.proofs.Parts.{left_of, right_of}
-use Rattle.scoped_spelled.proofs.Ready.{the_tree, placed, IsOff}
-use Rattle.scoped_spelled.proofs.Standing.{Follows, asks, Holds, Ran, name_of, IsValue, IsCalm, begins_sign, Ready, Made, Keeps, Calms, number_or}
-use Rattle.scoped_spelled.proofs.Steps.{earlier, later, append_nil, one_end}
-use Rattle.scoped_spelled.proofs.Calm.{Here, is_calm, IsReady, RowReady, AreReady, OthersReady, calm_one, calm_inside, at_end, part}
-use Rattle.scoped_spelled.proofs.Expressions.{never, never_two, seen_value}
-use Rattle.scoped_spelled.proofs.Heads.{Good, first_good, placed_head}
-use Rattle.scoped_spelled.proofs.Declarators.{or_none, head_plain, declarator_form, declarator_head}
+use Rattle.ready_rows.proofs.Ready.{the_tree, placed, IsOff}
+use Rattle.ready_rows.proofs.Standing.{Follows, asks, Holds, Ran, name_of, IsValue, IsCalm, begins_sign, Ready, Made, Keeps, Calms, number_or}
+use Rattle.ready_rows.proofs.Steps.{earlier, later, append_nil, one_end}
+use Rattle.ready_rows.proofs.Calm.{Here, is_calm, IsReady, RowReady, AreReady, OthersReady, calm_one, calm_inside, at_end, part}
+use Rattle.ready_expressions.proofs.Expressions.{never, never_two, seen_value}
+use Rattle.ready_expressions.proofs.Heads.{Good, first_good, placed_head}
+use Rattle.ready_expressions.proofs.Declarators.{or_none, head_plain, declarator_form, declarator_head}
 use Rattle.scoped_spelled.proofs.Specifiers.{is_spec, Allows, allows_all, specs_ready, as_elements, running_elements, a_list}
 use Rattle.scoped_spelled.proofs.Uses.{all_free, has_name, uses_name, declared_last}
 

@@ -23,9 +23,9 @@ use Rattle.c_trees.specs.Counts.{pure}
 use Rattle.c_trees.specs.Valid.{valid}
 use Rattle.c_layout.specs.Spelled.{tokens, all_spelled, wholes, separated}
 use Rattle.spelled_trees.proofs.Parts.{left_of, right_of}
-use Rattle.scoped_spelled.proofs.Ready.{the_tree, placed, others, IsOff}
-use Rattle.scoped_spelled.proofs.Standing.{name_of, IsValue}
-use Rattle.scoped_spelled.proofs.Heads.{parts_of, Good, first_good, good_fits, placed_head}
+use Rattle.ready_rows.proofs.Ready.{the_tree, placed, others, IsOff}
+use Rattle.ready_rows.proofs.Standing.{name_of, IsValue}
+use Rattle.ready_expressions.proofs.Heads.{parts_of, Good, first_good, good_fits, placed_head}
 use Rattle.scoped_spelled.proofs.Specifiers.{a_list}
 use Rattle.scoped_spelled.proofs.Declarations.{sign_off, declarator_off}
 use Rattle.c_tokens.specs.declared.class.Class.TheVariants as class
@@ -37,10 +37,10 @@ use Rattle.scopes.specs.declared.event.Event.{Event}
 use Rattle.scopes.specs.Events.{events_of, declared}
 use Rattle.scopes.specs.Settling.{Scoped, settled}
 use Rattle.spelled_scopes.specs.Meant.{frames}
-use Rattle.scoped_spelled.proofs.Standing.{asks, declaring}
-use Rattle.scoped_spelled.proofs.Steps.{append_nil}
-use Rattle.scoped_spelled.proofs.Expressions.{never, never_two}
-use Rattle.scoped_spelled.proofs.Declarators.{declarator_form}
+use Rattle.ready_rows.proofs.Standing.{asks, declaring}
+use Rattle.ready_rows.proofs.Steps.{append_nil}
+use Rattle.ready_expressions.proofs.Expressions.{never, never_two}
+use Rattle.ready_expressions.proofs.Declarators.{declarator_form}
 use Rattle.scoped_spelled.proofs.Uses.{uses_name, declared_last}
 use Rattle.c_forms.specs.declared.pieces.Event.TheVariants as event
 use Rattle.c_forms.specs.declared.pieces.Sort.{Sort}
@@ -52,8 +52,8 @@ use Rattle.c_syntax.specs.Reading.{Usual}
 use Rattle.scope_meanings.specs.declared.meaning.NameUse.{NameUse}
 use Rattle.scope_meanings.specs.declared.meaning.NameUse.TheVariants as naming
 use Rattle.scope_meanings.specs.Meanings.{has_type, has_typedef}
-use Rattle.scoped_spelled.proofs.Standing.{IsCalm, Calms}
-use Rattle.scoped_spelled.proofs.Calm.{RowReady, AreReady}
+use Rattle.ready_rows.proofs.Standing.{IsCalm, Calms}
+use Rattle.ready_rows.proofs.Calm.{RowReady, AreReady}
 use Rattle.scoped_spelled.proofs.Specifiers.{specs_ready}
 use Rattle.scoped_spelled.proofs.Uses.{all_free}
 use Rattle.scoped_spelled.proofs.Members.{inits_ready}

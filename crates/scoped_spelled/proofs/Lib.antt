@@ -1,16 +1,5 @@
-mod Runs
-mod Ready
-mod Rows
-mod Standing
-mod Steps
-mod Calm
-mod Expressions
-mod Heads
-mod Statements
-mod Declarators
-mod Specifiers
-mod Uses
-mod Declarations
-mod Members
-mod Nodes
-mod Decls
+pub mod Specifiers
+pub mod Uses
+pub mod Declarations
+pub mod Members
+pub mod Decls

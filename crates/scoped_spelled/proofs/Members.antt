@@ -39,13 +39,13 @@ use Rattle.scopes.specs.Settling.{Scoped, settled}
 use Rattle.spelled_scopes.specs.Meant.{frames}
 use Rattle.spelled_trees.specs.Told.{is_named}
 use Rattle.spelled_trees.proofs.Parts.{left_of, right_of}
-use Rattle.scoped_spelled.proofs.Ready.{the_tree}
-use Rattle.scoped_spelled.proofs.Standing.{number_or, asks, Holds, Ran, name_of, Goes, declaring}
-use Rattle.scoped_spelled.proofs.Steps.{earlier, later, append_nil, one_end}
-use Rattle.scoped_spelled.proofs.Calm.{RowReady, AreReady, OthersReady, part}
-use Rattle.scoped_spelled.proofs.Expressions.{never, never_two}
-use Rattle.scoped_spelled.proofs.Heads.{Good, first_good, id_form}
-use Rattle.scoped_spelled.proofs.Declarators.{declarator_form, head_plain, or_none, next_none}
+use Rattle.ready_rows.proofs.Ready.{the_tree}
+use Rattle.ready_rows.proofs.Standing.{number_or, asks, Holds, Ran, name_of, Goes, declaring}
+use Rattle.ready_rows.proofs.Steps.{earlier, later, append_nil, one_end}
+use Rattle.ready_rows.proofs.Calm.{RowReady, AreReady, OthersReady, part}
+use Rattle.ready_expressions.proofs.Expressions.{never, never_two}
+use Rattle.ready_expressions.proofs.Heads.{Good, first_good, id_form}
+use Rattle.ready_expressions.proofs.Declarators.{declarator_form, head_plain, or_none, next_none}
 use Rattle.scoped_spelled.proofs.Specifiers.{a_list}
 use Rattle.scoped_spelled.proofs.Uses.{by_declarator, all_free, uses_name, declared_last}
 use Rattle.scoped_spelled.proofs.Declarations.{keeping_elements, two_rules, opposed}

@@ -42,12 +42,12 @@ use Rattle.scopes.specs.Events.{events_of}
 use Rattle.scopes.specs.Settling.{Scoped, settled}
 use Rattle.spelled_scopes.specs.Meant.{frames}
 use Rattle.spelled_trees.proofs.Parts.{left_of, right_of}
-use Rattle.scoped_spelled.proofs.Ready.{the_tree, past}
-use Rattle.scoped_spelled.proofs.Rows.{list_form, list_stand, stand_by}
-use Rattle.scoped_spelled.proofs.Standing.{Follows, asks, Holds, Ran, Ready, Made, Specifies}
-use Rattle.scoped_spelled.proofs.Steps.{earlier, later, append_nil, one_end, must_type}
-use Rattle.scoped_spelled.proofs.Calm.{Here, RowReady, AreReady, OthersReady, GroupReady, calm_elements, at_end, at_past}
-use Rattle.scoped_spelled.proofs.Expressions.{never, never_two, seen_alike}
+use Rattle.ready_rows.proofs.Ready.{the_tree, past}
+use Rattle.ready_rows.proofs.Rows.{list_form, list_stand, stand_by}
+use Rattle.ready_rows.proofs.Standing.{Follows, asks, Holds, Ran, Ready, Made, Specifies}
+use Rattle.ready_rows.proofs.Steps.{earlier, later, append_nil, one_end, must_type}
+use Rattle.ready_rows.proofs.Calm.{Here, RowReady, AreReady, OthersReady, GroupReady, calm_elements, at_end, at_past}
+use Rattle.ready_expressions.proofs.Expressions.{never, never_two, seen_alike}
 
 -- ---- what may stand
 

@@ -35,12 +35,12 @@ use Rattle.scopes.specs.Settling.{Scoped, settled}
 use Rattle.spelled_scopes.specs.Meant.{frames}
 use Rattle.spelled_trees.specs.Told.{is_named}
 use Rattle.spelled_trees.proofs.Parts.{left_of, right_of}
-use Rattle.scoped_spelled.proofs.Ready.{the_tree}
-use Rattle.scoped_spelled.proofs.Standing.{asks, name_of, IsValue}
-use Rattle.scoped_spelled.proofs.Steps.{append_nil, must_value}
-use Rattle.scoped_spelled.proofs.Expressions.{never, never_two}
-use Rattle.scoped_spelled.proofs.Heads.{Good, first_good, good_fits, id_form, exp_form}
-use Rattle.scoped_spelled.proofs.Declarators.{head_plain, qualifiers_quiet, declared_stands, inner_stands, params_form, or_none, next_none}
+use Rattle.ready_rows.proofs.Ready.{the_tree}
+use Rattle.ready_rows.proofs.Standing.{asks, name_of, IsValue}
+use Rattle.ready_rows.proofs.Steps.{append_nil, must_value}
+use Rattle.ready_expressions.proofs.Expressions.{never, never_two}
+use Rattle.ready_expressions.proofs.Heads.{Good, first_good, good_fits, id_form, exp_form}
+use Rattle.ready_expressions.proofs.Declarators.{head_plain, qualifiers_quiet, declared_stands, inner_stands, params_form, or_none, next_none}
 use Rattle.scoped_spelled.proofs.Specifiers.{a_list}
 
 -- ---- what does not depend on the use

@@ -38,10 +38,10 @@ use Rattle.scopes.specs.Events.{events_of}
 use Rattle.scopes.specs.Settling.{Scoped, settled}
 use Rattle.spelled_scopes.specs.Meant.{frames}
 use Rattle.spelled_trees.proofs.Parts.{right_of}
-use Rattle.scoped_spelled.proofs.Ready.{the_tree, IsOwn}
-use Rattle.scoped_spelled.proofs.Standing.{begins_else, asks, Ran, IsCalm, Calms}
-use Rattle.scoped_spelled.proofs.Steps.{append_nil, must_value, after_all}
-use Rattle.scoped_spelled.proofs.Calm.{Here, first_holds, goes_on, at_end, RowReady, are_calm, has_own, Closed, closed, calm_row, part}
+use Rattle.ready_rows.proofs.Ready.{the_tree, IsOwn}
+use Rattle.ready_rows.proofs.Standing.{begins_else, asks, Ran, IsCalm, Calms}
+use Rattle.ready_rows.proofs.Steps.{append_nil, must_value, after_all}
+use Rattle.ready_rows.proofs.Calm.{Here, first_holds, goes_on, at_end, RowReady, are_calm, has_own, Closed, closed, calm_row, part}
 
 -- ---- tokens
 

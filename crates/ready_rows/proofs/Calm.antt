@@ -34,11 +34,11 @@ use Rattle.scopes.specs.Events.{events_of}
 use Rattle.scopes.specs.Settling.{Scoped, settled}
 use Rattle.spelled_scopes.specs.Meant.{frames}
 use Rattle.spelled_trees.proofs.Parts.{left_of, right_of}
-use Rattle.scoped_spelled.proofs.Ready as ready
-use Rattle.scoped_spelled.proofs.Ready.{the_tree, past, others, IsOwn}
-use Rattle.scoped_spelled.proofs.Rows.{list_stand, list_form, stand_by}
-use Rattle.scoped_spelled.proofs.Standing.{asks, Holds, Ran, Ready, Follows, begins_else, Calms, Made, Does}
-use Rattle.scoped_spelled.proofs.Steps.{earlier, later, append_nil, stays, one_end}
+use Rattle.ready_rows.proofs.Ready as ready
+use Rattle.ready_rows.proofs.Ready.{the_tree, past, others, IsOwn}
+use Rattle.ready_rows.proofs.Rows.{list_stand, list_form, stand_by}
+use Rattle.ready_rows.proofs.Standing.{asks, Holds, Ran, Ready, Follows, begins_else, Calms, Made, Does}
+use Rattle.ready_rows.proofs.Steps.{earlier, later, append_nil, stays, one_end}
 
 -- ---- where no declaration is begun
 

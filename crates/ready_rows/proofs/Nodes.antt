@@ -14,10 +14,10 @@ use Rattle.c_syntax.specs.Spells.{Spelling, Levels, IsNode, may_be, parts_spelle
 use Rattle.c_layout.specs.Spelled.{tokens}
 use Rattle.spelled_scopes.specs.Agreement.{Alike}
 use Rattle.spelled_trees.proofs.Fitted.{is_fine}
-use Rattle.scoped_spelled.specs.Printed.{Run}
-use Rattle.scoped_spelled.proofs.Ready as ready
-use Rattle.scoped_spelled.proofs.Ready.{the_tree}
-use Rattle.scoped_spelled.proofs.Rows.{Fine, Prints, completed, is_printable}
+use Rattle.ready_rows.specs.Printed.{Run}
+use Rattle.ready_rows.proofs.Ready as ready
+use Rattle.ready_rows.proofs.Ready.{the_tree}
+use Rattle.ready_rows.proofs.Rows.{Fine, Prints, completed, is_printable}
 
 module _ (Ready : Sort → Plain → State → Type 0) (Follows : Sort → Plain → List Shape → Type 0) (Does : Sort → Plain → Spot → Spot → Type 0) (w : List Shape) (levels : Type 0) (deeper inner : Spelling) where
   -- a node that is spelled from a spot to a place, equal to a tree but for its spans, and what is known there

@@ -13,8 +13,8 @@ use Rattle.c_forms.specs.declared.pieces.Sort.TheVariants as s
 use Rattle.c_forms.specs.declared.pieces.Repetition.TheVariants.{All, Many}
 use Rattle.c_forms.specs.declared.pieces.Piece.{Piece}
 use Rattle.c_forms.specs.declared.pieces.Piece.TheVariants.{Token, One}
-use Rattle.scoped_spelled.proofs.Rows.{list_least, list_stand}
-use Rattle.scoped_spelled.proofs.Steps.{append_nil}
+use Rattle.ready_rows.proofs.Rows.{list_least, list_stand}
+use Rattle.ready_rows.proofs.Steps.{append_nil}
 use Rattle.c_forms.specs.declared.operators.UnaryOperator.{UnaryOperator}
 use Rattle.c_forms.specs.declared.operators.UnaryOperator.TheVariants as unary
 use Rattle.c_forms.specs.declared.operators.BinaryOperator.{BinaryOperator}
@@ -52,8 +52,8 @@ use Rattle.scopes.specs.declared.event.Event.{Event}
 use Rattle.scopes.specs.declared.event.Event.TheVariants.{Must}
 use Rattle.scopes.specs.Events.{events_of}
 use Rattle.spelled_trees.proofs.Parts.{left_of, right_of}
-use Rattle.scoped_spelled.proofs.Ready.{the_tree, placed, others}
-use Rattle.scoped_spelled.proofs.Standing.{begins_else}
+use Rattle.ready_rows.proofs.Ready.{the_tree, placed, others}
+use Rattle.ready_rows.proofs.Standing.{begins_else}
 
 -- ---- validity
 

@@ -43,13 +43,13 @@ use Rattle.spelled_scopes.specs.Meant.{frames}
 use Rattle.spelled_trees.specs.Scoped.{are_words, Grown}
 use Rattle.spelled_trees.proofs.Parts.{left_of, right_of}
 use Rattle.spelled_trees.proofs.Scopes.{grown_none, grown_more}
-use Rattle.scoped_spelled.proofs.Ready.{the_tree, placed, others, IsOff}
-use Rattle.scoped_spelled.proofs.Rows.{list_form, list_stand, list_most, stand_by}
-use Rattle.scoped_spelled.proofs.Standing.{asks, begins_else, IsCalm, Calms}
-use Rattle.scoped_spelled.proofs.Steps.{append_nil, one_end}
-use Rattle.scoped_spelled.proofs.Calm.{Here, first_holds, goes_on, regrouped, RowReady, AreReady, OthersReady, closed, part}
-use Rattle.scoped_spelled.proofs.Expressions.{calms_end, calm_node, never, never_two}
-use Rattle.scoped_spelled.proofs.Heads.{first_good, parts_of, item_no_else, placed_head}
+use Rattle.ready_rows.proofs.Ready.{the_tree, placed, others, IsOff}
+use Rattle.ready_rows.proofs.Rows.{list_form, list_stand, list_most, stand_by}
+use Rattle.ready_rows.proofs.Standing.{asks, begins_else, IsCalm, Calms}
+use Rattle.ready_rows.proofs.Steps.{append_nil, one_end}
+use Rattle.ready_rows.proofs.Calm.{Here, first_holds, goes_on, regrouped, RowReady, AreReady, OthersReady, closed, part}
+use Rattle.ready_expressions.proofs.Expressions.{calms_end, calm_node, never, never_two}
+use Rattle.ready_expressions.proofs.Heads.{first_good, parts_of, item_no_else, placed_head}
 
 -- ---- no `else`
 

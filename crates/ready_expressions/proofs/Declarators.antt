@@ -46,14 +46,14 @@ use Rattle.scopes.specs.Settling.{Scoped, settled}
 use Rattle.spelled_scopes.specs.Meant.{frames}
 use Rattle.spelled_trees.specs.Told.{is_named, is_function, is_bare_name}
 use Rattle.spelled_trees.proofs.Parts.{left_of, right_of}
-use Rattle.scoped_spelled.proofs.Ready.{the_tree, placed}
-use Rattle.scoped_spelled.proofs.Rows.{list_form, list_stand}
-use Rattle.scoped_spelled.proofs.Standing.{Follows, asks, inner_asks, Holds, Ran, name_of, Declares, Ready, Made, Names, Nears, number_or}
-use Rattle.scoped_spelled.proofs.Steps.{earlier, later, split_at, append_nil, one_end}
-use Rattle.scoped_spelled.proofs.Calm.{RowReady, AreReady, OthersReady, calm_elements, at_end, part}
-use Rattle.scoped_spelled.proofs.Expressions.{never, never_two}
-use Rattle.scoped_spelled.proofs.Heads.{placed_head, Good, first_good, good_fits, right_fits, parts_of, id_form}
-use Rattle.scoped_spelled.proofs.Statements.{around, holds_rule}
+use Rattle.ready_rows.proofs.Ready.{the_tree, placed}
+use Rattle.ready_rows.proofs.Rows.{list_form, list_stand}
+use Rattle.ready_rows.proofs.Standing.{Follows, asks, inner_asks, Holds, Ran, name_of, Declares, Ready, Made, Names, Nears, number_or}
+use Rattle.ready_rows.proofs.Steps.{earlier, later, split_at, append_nil, one_end}
+use Rattle.ready_rows.proofs.Calm.{RowReady, AreReady, OthersReady, calm_elements, at_end, part}
+use Rattle.ready_expressions.proofs.Expressions.{never, never_two}
+use Rattle.ready_expressions.proofs.Heads.{placed_head, Good, first_good, good_fits, right_fits, parts_of, id_form}
+use Rattle.ready_expressions.proofs.Statements.{around, holds_rule}
 
 -- ---- what is asked of a declarator by its sort
 

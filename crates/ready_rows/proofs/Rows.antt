@@ -41,10 +41,10 @@ use Rattle.c_layout.specs.Spelled.{spell, all_spelled, wholes, separated}
 use Rattle.spelled_scopes.specs.Agreement.{no_span, unspanned, Alike}
 use Rattle.spelled_trees.proofs.Parts.{left_of, right_of, is_low}
 use Rattle.spelled_trees.proofs.Fitted.{is_fine, inside_is}
-use Rattle.scoped_spelled.specs.Printed.{Run}
-use Rattle.scoped_spelled.proofs.Runs.{Cut, cut, joined}
-use Rattle.scoped_spelled.proofs.Ready as ready
-use Rattle.scoped_spelled.proofs.Ready.{the_tree, placed, others, past, IsOff, IsOwn}
+use Rattle.ready_rows.specs.Printed.{Run}
+use Rattle.ready_rows.proofs.Runs.{Cut, cut, joined}
+use Rattle.ready_rows.proofs.Ready as ready
+use Rattle.ready_rows.proofs.Ready.{the_tree, placed, others, past, IsOff, IsOwn}
 
 -- ---- tokens that are fixed
 

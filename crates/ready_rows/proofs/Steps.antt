@@ -12,7 +12,7 @@ use Rattle.scopes.specs.declared.event.Event.{Event}
 use Rattle.scopes.specs.declared.event.Event.TheVariants.{Enter, Leave, Must, Declare}
 use Rattle.scopes.specs.Settling.{Settled, Scoped, Clashes, settled, is_same}
 use Rattle.spelled_scopes.specs.Meant.{frames}
-use Rattle.scoped_spelled.proofs.Standing.{Holds, Ran}
+use Rattle.ready_rows.proofs.Standing.{Holds, Ran}
 
 -- ---- events in two parts
 

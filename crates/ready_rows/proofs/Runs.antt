@@ -1,7 +1,7 @@
 -- Tokens from one place to another.
 use Rattle.std.proofs.Common.{refl, sym, subst, ℕ, ◌+◌, List, [], ◌∷◌, ◌++◌}
 use Rattle.c_tokens.specs.declared.token.Shape.{Shape}
-use Rattle.scoped_spelled.specs.Printed.{Run}
+use Rattle.ready_rows.specs.Printed.{Run}
 
 -- tokens in two parts
 pub record Cut (w : List Shape) (p : ℕ) (xs ys : List Shape) (q : ℕ) : Type 0 where

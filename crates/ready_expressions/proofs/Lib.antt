@@ -1,0 +1,4 @@
+pub mod Expressions
+pub mod Heads
+pub mod Statements
+pub mod Declarators

@@ -1,0 +1,2 @@
+//! Expressions, statements and declarators are ready where their events hold.
+#![tactic(auto)]
