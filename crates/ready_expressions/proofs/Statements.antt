@@ -31,8 +31,7 @@ use Rattle.c_reader.specs.Tokens.{Spot, step, turned}
 use Rattle.c_syntax.specs.Reading.{Usual}
 use Rattle.c_trees.specs.Counts.{pure}
 use Rattle.c_trees.specs.Valid.{valid}
-use Rattle.scope_tables.specs.Frames.{Frame, left, declared}
-use Rattle.scope_tables.specs.declared.table.WordClass.{WordClass}
+use Rattle.scope_tables.specs.Frames.{Frame, left}
 use Rattle.scope_tables.specs.declared.table.WordClass.TheVariants.{TypeName, Value}
 use Rattle.scope_meanings.specs.declared.meaning.NameUse.TheVariants as naming
 use Rattle.scopes.specs.declared.event.Event.{Event}
@@ -40,6 +39,7 @@ use Rattle.scopes.specs.declared.event.Event.TheVariants.{Leave}
 use Rattle.scopes.specs.Events.{events_of}
 use Rattle.scopes.specs.Settling.{Scoped, settled}
 use Rattle.spelled_scopes.specs.Meant.{frames}
+use Rattle.spelled_scopes.proofs.Frames.{left_declared}
 use Rattle.spelled_trees.specs.Scoped.{are_words, Grown}
 use Rattle.spelled_trees.proofs.Parts.{left_of, right_of}
 use Rattle.spelled_trees.proofs.Scopes.{grown_none, grown_more}
@@ -187,10 +187,6 @@ if_row own sp (tree g gp qs (tree f fp rs (tree k kp (tree e ep vs empty) empty)
     )
 
 -- ---- blocks
-
-left_declared : (m : ℕ) (k : WordClass) (fs : List Frame) → left (declared m k fs) ≡ left fs
-left_declared m k [] = refl
-left_declared m k (f ∷ fs) = refl
 
 around_words : (ws : List Entry) (late : Bool) (es : List Entry) → are_words ws ≡ true → (outside (ws ++ (Edge late ∷ es)) ≡ es) × (left (frames (ws ++ (Edge late ∷ es))) ≡ frames es)
 around_words [] late es h = (refl, refl)

@@ -1,17 +1,16 @@
 -- Events that hold, one after the other.
-use Rattle.std.proofs.Common.{◌≡◌, ◌≢◌, refl, ap, sym, subst, ◌∙◌, ℕ, Bool, true, false, if◌then◌else◌, List, [], ◌∷◌, ◌++◌, Option, Some, nat_eq}
-use Rattle.std.specs.Prelude.{unwrap_or}
-use Rattle.std.specs.Map.{lookup}
+use Rattle.std.proofs.Common.{◌≡◌, ◌≢◌, refl, ap, sym, subst, ◌∙◌, Bool, true, false, if◌then◌else◌, List, [], ◌∷◌, ◌++◌}
 use Rattle.c_tokens.specs.declared.span.Span.{Span}
 use Rattle.c_tokens.specs.declared.token.Word.{Word}
-use Rattle.c_reader.specs.States.{Entry, Edge, AsType, AsValue, State, is_type}
+use Rattle.c_reader.specs.States.{Entry, State, is_type}
 use Rattle.scope_tables.specs.declared.table.WordClass.{WordClass}
 use Rattle.scope_tables.specs.declared.table.WordClass.TheVariants.{TypeName, Value}
-use Rattle.scope_tables.specs.Frames.{Frame, class_named, class_among, class_of, or_else, entered, left, declared}
+use Rattle.scope_tables.specs.Frames.{Frame, class_named, class_of, entered, left, declared}
 use Rattle.scopes.specs.declared.event.Event.{Event}
 use Rattle.scopes.specs.declared.event.Event.TheVariants.{Enter, Leave, Must, Declare}
 use Rattle.scopes.specs.Settling.{Settled, Scoped, Clashes, settled, is_same}
 use Rattle.spelled_scopes.specs.Meant.{frames}
+use Rattle.spelled_scopes.proofs.Frames.{meant}
 use Rattle.ready_rows.proofs.Standing.{Holds, Ran}
 
 -- ---- events in two parts
@@ -53,36 +52,6 @@ pub same_end : (es : List Event) (fs m gs : List Frame) → settled es fs ≡ Sc
 same_end es fs m gs a b = one_end m gs (sym a ∙ b)
 
 -- ---- what words are
-
-some_frame : (es : List Entry) → (f : Frame) × ((fs : List Frame) × (frames es ≡ f ∷ fs))
-some_frame [] = ([], ([], refl))
-some_frame (Edge late ∷ es) = ([], (frames es, refl))
-some_frame (AsType word ∷ es) = let o = some_frame es in ((word, TypeName) ∷ o.0, (o.1.0, ap (declared word TypeName) o.1.1))
-some_frame (AsValue word ∷ es) = let o = some_frame es in ((word, Value) ∷ o.0, (o.1.0, ap (declared word Value) o.1.1))
-
-found_first : (c : Bool) (k : WordClass) (inner outer : Option WordClass) → unwrap_or (or_else (if c then Some k else inner) outer) Value ≡ (if c then k else unwrap_or (or_else inner outer) Value)
-found_first true k inner outer = refl
-found_first false k inner outer = refl
-
-class_declared : (n m : ℕ) (k : WordClass) (es : List Entry) → class_of n (declared m k (frames es)) ≡ (if nat_eq n m then k else class_of n (frames es))
-class_declared n m k es =
-    let o = some_frame es in
-    subst (λ fs. class_of n (declared m k fs) ≡ (if nat_eq n m then k else class_of n fs)) (sym o.1.1) (found_first (nat_eq n m) k (lookup (nat_eq n) o.0) (class_among n o.1.0))
-
-by_type : (c b : Bool) → (if c then TypeName else class_named b) ≡ class_named (if c then true else b)
-by_type true b = refl
-by_type false b = refl
-
-by_value : (c b : Bool) → (if c then Value else class_named b) ≡ class_named (if c then false else b)
-by_value true b = refl
-by_value false b = refl
-
--- a word is what the entries make it
-meant : (es : List Entry) (n : ℕ) → class_of n (frames es) ≡ class_named (is_type es n)
-meant [] n = refl
-meant (Edge late ∷ es) n = meant es n
-meant (AsType m ∷ es) n = class_declared n m TypeName es ∙ ap (λ k. if nat_eq n m then TypeName else k) (meant es n) ∙ by_type (nat_eq n m) (is_type es n)
-meant (AsValue m ∷ es) n = class_declared n m Value es ∙ ap (λ k. if nat_eq n m then Value else k) (meant es n) ∙ by_value (nat_eq n m) (is_type es n)
 
 same_value : (b : Bool) → is_same Value (class_named b) ≡ true → b ≡ false
 same_value true e = absurd (cc e)

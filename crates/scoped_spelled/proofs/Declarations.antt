@@ -70,7 +70,7 @@ sign_off s.Spec p u xs c = spec_sign p u xs
 sign_off s.PlainSpec p u xs c = plain_spec_sign p u xs
 sign_off due p u xs c = absurd (cc c)
 
-word_off : (due : Sort) (w : Word) (u : State) (xs : List Shape) → is_spec due ≡ true → (not u.kept.has_type && is_type u.entries w.0) ≡ false → IsOff (starts due) u (shape.Word w ∷ xs)
+pub word_off : (due : Sort) (w : Word) (u : State) (xs : List Shape) → is_spec due ≡ true → (not u.kept.has_type && is_type u.entries w.0) ≡ false → IsOff (starts due) u (shape.Word w ∷ xs)
 word_off s.Spec w u xs c e = ap (λ c. has (starts s.Spec) c) (seen_value u w e)
 word_off s.PlainSpec w u xs c e = ap (λ c. has (starts s.PlainSpec) c) (seen_value u w e)
 word_off due w u xs c e = absurd (cc c)

@@ -3,3 +3,6 @@ pub mod Uses
 pub mod Declarations
 pub mod Members
 pub mod Decls
+pub mod Words
+pub mod Params
+pub mod MemberRows

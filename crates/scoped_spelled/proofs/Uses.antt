@@ -228,7 +228,7 @@ has_name f sp ps n = by_declarator HasName (λ sp w gp qs n e. refl) (λ sp n e.
 same_name : (m n : Name) → Some m ≡ Some n → m ≡ n
 same_name m n e = cc e
 
-by_checked : (n : Option Name) (es : List Event) (en : List Entry) (gs : List Frame) → settled (checked n ++ es) (frames en) ≡ Scoped gs → (settled es (frames en) ≡ Scoped gs) × ((name : Name) → n ≡ Some name → is_type en name.word.0 ≡ false)
+pub by_checked : (n : Option Name) (es : List Event) (en : List Entry) (gs : List Frame) → settled (checked n ++ es) (frames en) ≡ Scoped gs → (settled es (frames en) ≡ Scoped gs) × ((name : Name) → n ≡ Some name → is_type en name.word.0 ≡ false)
 by_checked (Some m) es en gs e = let o = must_value m.word m.span es en gs e in (o.1, λ name q. subst (λ (name : Name). is_type en name.word.0 ≡ false) (same_name m name q) o.0)
 by_checked None es en gs e = (e, λ name q. absurd (cc q))
 

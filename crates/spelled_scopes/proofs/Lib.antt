@@ -1,4 +1,4 @@
-mod Frames
+pub mod Frames
 mod Joined
 mod Laws
 mod Sorts
@@ -12,7 +12,7 @@ mod Declarators
 mod Parameters
 mod Declarations
 mod Declared
-mod Words
+pub mod Words
 mod Functions
 mod Nodes
 mod Spelled

@@ -70,5 +70,11 @@ Only ws = (es : List Entry) → settled ws (frames es) ≡ Scoped (frames (after
 only_on : (vs ws : List Event) → Only vs → Only ws → Only (vs ++ ws)
 only_on vs ws p q = λ es. settled_on vs ws (frames es) (frames (after_words vs es)) (p es) ∙ q (after_words vs es) ∙ ap (λ es. Scoped (frames es)) (sym (words_on vs ws es))
 
+only_one : (word : Word) (k : WordClass) → Only (Declare word k ∷ [])
+only_one word k = λ es. ap Scoped (sym (entry_frames k word.0 es))
+
+pub only_words : (u : NameUse) (t : Forest) → Only (words u t)
+only_words u t = by_words Only (λ es. refl) only_one only_on u t
+
 pub only_beside : (t : Forest) → Only (beside_name t)
-only_beside t = by_beside Only (λ es. refl) (λ word k es. ap Scoped (sym (entry_frames k word.0 es))) only_on t
+only_beside t = by_beside Only (λ es. refl) only_one only_on t
