@@ -6,3 +6,4 @@ pub mod Decls
 pub mod Words
 pub mod Params
 pub mod MemberRows
+pub mod Functions
