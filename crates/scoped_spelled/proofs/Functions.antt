@@ -15,7 +15,6 @@ use Rattle.c_forms.specs.declared.forms.StmtForm.TheVariants as stmt
 use Rattle.c_forms.specs.declared.forms.ItemForm.TheVariants as item
 use Rattle.c_forms.specs.declared.forms.TemplateForm.TheVariants as template
 use Rattle.c_forms.specs.declared.forms.DeclaratorForm.{DeclaratorForm}
-use Rattle.c_forms.specs.declared.forms.DeclaratorForm.TheVariants as declarator
 use Rattle.c_forms.specs.declared.forms.GroupForm.TheVariants as group
 use Rattle.c_forms.specs.Forests.{Plain, Forest, empty, tree}
 use Rattle.c_forms.specs.Fits.{fits, is_list_of, all_stand}
@@ -48,7 +47,7 @@ use Rattle.spelled_trees.proofs.Parts.{both, left_of, right_of}
 use Rattle.ready_rows.proofs.Ready.{the_tree, placed, IsOff}
 use Rattle.ready_rows.proofs.Standing.{number_or, asks, Holds, IsCalm, Calms, Nears, IsValue, name_of}
 use Rattle.ready_rows.proofs.Steps.{split_at, earlier, later, append_nil, one_end}
-use Rattle.ready_rows.proofs.Calm.{Here, RowReady, AreReady, calm_one, calm_elements, part}
+use Rattle.ready_rows.proofs.Calm.{RowReady, calm_one, calm_elements, part}
 use Rattle.ready_expressions.proofs.Expressions.{never, never_two}
 use Rattle.ready_expressions.proofs.Heads.{parts_of, Good, first_good, placed_head}
 use Rattle.ready_expressions.proofs.Statements.{holds_rule}

@@ -1,5 +1,5 @@
 -- Members of structures and unions are ready where their events hold.
-use Rattle.std.proofs.Common.{◌≡◌, refl, ap, sym, subst, ◌∙◌, Bool, true, false, not, ◌&&◌, ◌||◌, List, [], ◌∷◌, ◌++◌, append_assoc, Option, Some, None}
+use Rattle.std.proofs.Common.{◌≡◌, refl, ap, sym, subst, ◌∙◌, Bool, true, false, not, ◌&&◌, ◌||◌, List, [], ◌∷◌, ◌++◌, append_assoc, Some, None}
 use Rattle.c_tokens.specs.declared.span.Span.{Span}
 use Rattle.c_tokens.specs.declared.token.Shape.{Shape}
 use Rattle.c_tokens.specs.declared.token.Shape.TheVariants as shape
@@ -41,7 +41,7 @@ use Rattle.spelled_scopes.specs.Meant.{frames}
 use Rattle.spelled_trees.specs.Told.{is_named}
 use Rattle.spelled_trees.proofs.Parts.{left_of, right_of}
 use Rattle.ready_rows.proofs.Ready.{the_tree, placed, others, IsOff}
-use Rattle.ready_rows.proofs.Standing.{asks, Holds, IsCalm, Calms, Goes, IsValue, name_of, checking}
+use Rattle.ready_rows.proofs.Standing.{asks, Holds, IsCalm, Calms, Goes, checking}
 use Rattle.ready_rows.proofs.Steps.{earlier, later, append_nil, one_end}
 use Rattle.ready_rows.proofs.Calm.{RowReady, AreReady, OthersReady, part}
 use Rattle.ready_expressions.proofs.Expressions.{never, never_two}

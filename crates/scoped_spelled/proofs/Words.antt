@@ -1,5 +1,5 @@
 -- What the events of trees declare in the innermost scope is what their words say.
-use Rattle.std.proofs.Common.{◌≡◌, refl, ap, sym, subst, ◌∙◌, ℕ, Bool, true, false, ◌&&◌, if◌then◌else◌, List, [], ◌∷◌, ◌++◌, Option, Some, None}
+use Rattle.std.proofs.Common.{◌≡◌, refl, ap, sym, subst, ◌∙◌, Bool, true, false, ◌&&◌, List, [], ◌∷◌, ◌++◌, Option, Some, None}
 use Rattle.c_tokens.specs.declared.span.Span.{Span}
 use Rattle.c_tokens.specs.declared.token.Word.{Word}
 use Rattle.c_forms.specs.declared.operators.BinaryOperator.TheVariants as operator
@@ -17,9 +17,8 @@ use Rattle.c_forms.specs.declared.forms.StmtForm.TheVariants as stmt
 use Rattle.c_forms.specs.declared.forms.DeclaratorForm.TheVariants as declarator
 use Rattle.c_forms.specs.declared.forms.ParamsForm.TheVariants as params
 use Rattle.c_forms.specs.declared.forms.InitForm.TheVariants as init
-use Rattle.c_forms.specs.declared.forms.TemplateForm.TheVariants as template
 use Rattle.c_forms.specs.declared.forms.GroupForm.TheVariants as group
-use Rattle.c_forms.specs.Forests.{Plain, Forest, empty, tree}
+use Rattle.c_forms.specs.Forests.{Forest, empty, tree}
 use Rattle.c_forms.specs.Fits.{fits, elements, all_stand, is_list_of, is_spliced}
 use Rattle.c_forms.specs.Measures.{is_plain, pieces}
 use Rattle.c_forms.specs.Places.{serves, stands}
@@ -36,7 +35,7 @@ use Rattle.scope_meanings.specs.declared.meaning.Meaning.TheVariants as means
 use Rattle.scope_meanings.specs.declared.meaning.Name.{Name}
 use Rattle.scope_meanings.specs.Meanings.{meaning, inside, declares, name_in}
 use Rattle.scopes.specs.declared.event.Event.{Event}
-use Rattle.scopes.specs.declared.event.Event.TheVariants.{Enter, Leave, Must, Declare}
+use Rattle.scopes.specs.declared.event.Event.TheVariants.{Leave, Must, Declare}
 use Rattle.scopes.specs.Events.{in_order, each, scope, at_identifier, redeclared, declared_as, words, words_by, by_meaning}
 use Rattle.scopes.specs.Settling.{Scoped, settled}
 use Rattle.spelled_scopes.proofs.Frames.{settled_on}
