@@ -7,7 +7,7 @@ mod Turns
 mod Groups
 mod Pieces
 mod Shapes
-mod Alone
+pub mod Alone
 mod Nodes
 mod Parts
 mod Params

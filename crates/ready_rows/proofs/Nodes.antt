@@ -30,7 +30,7 @@ module _ (Ready : Sort → Plain → State → Type 0) (Follows : Sort → Plain
     pub done : K last
 
   -- The tokens of a node spell it where its row is ready, and what is ready among its parts is spelled.
-  pub node_spelled : (lows : Sort → Bool) (k : ℕ) (due : Sort) (least : ℕ) (f : Form) (sp : Span) (ts : Forest) (i : Spot) (after : List Shape) (m z : ℕ) (K : Spot → Type 0)
+  pub node_spelled : (lows : Sort → ℕ → Bool) (k : ℕ) (due : Sort) (least : ℕ) (f : Form) (sp : Span) (ts : Forest) (i : Spot) (after : List Shape) (m z : ℕ) (K : Spot → Type 0)
       → Prints Ready Follows Does w (parts_spelled (is_starred f) deeper inner) lows k → may_be due f ≡ true → least ≤ level f → Levels (is_starred f) levels → is_printable lows due (pieces f) ≡ true → is_fine due (pieces f) ≡ true → fits (pieces f) ts ≡ true → Fine k ts
       → Run w i.place (tokens (the_tree f sp ts)) m → Run w m after z → ready.RowReady Ready Follows Does due f Usual (pieces f) ts i after K → Spelled due least (the_tree f sp ts) i m K
   node_spelled lows k due least f sp ts i after m z K P b l v c d t n run next R =

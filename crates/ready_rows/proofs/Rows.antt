@@ -65,7 +65,7 @@ separator : (w : List Shape) (c : Option Class) (i : Spot) (xs : List Shape) (m 
 separator w None i xs m f r = (refl, r)
 separator w (Some c) i xs m f r = let g = fixed w c i xs m f r in ((g.0, refl), g.1)
 
-off : (w : List Shape) (begin : Classes) (j : Spot) (m r : ℕ) (after : List Shape) → j.place ≡ m → Run w m after r → IsOff begin j.state after → NoneBegins w begin j
+pub off : (w : List Shape) (begin : Classes) (j : Spot) (m r : ℕ) (after : List Shape) → j.place ≡ m → Run w m after r → IsOff begin j.state after → NoneBegins w begin j
 off w begin j m r [] p a o = absurd o
 off w begin j m r (x ∷ xs) p a o = ap (λ n. has begin (States.class j.state (raw_at w n))) p ∙ ap (λ y. has begin (States.class j.state y)) a.0 ∙ o
 
@@ -147,23 +147,23 @@ stands_inside own due least ps f h k = rw (inside_is own due) k
 -- ---- rows that can be printed
 
 -- each token is fixed, and each part is of a sort that is low enough
-abbrev pub is_printable : (Sort → Bool) → Sort → List Piece → Bool
+abbrev pub is_printable : (Sort → ℕ → Bool) → Sort → List Piece → Bool
 is_printable low own [] = true
 is_printable low own (Token c ∷ ps) = is_fixed c && is_printable low own ps
 is_printable low own (Maybe c ∷ ps) = is_printable low own ps
 is_printable low own (Own ∷ ps) = is_printable low own ps
-is_printable low own (One due least ∷ ps) = low (inside own due) && is_printable low own ps
-is_printable low own (Group r due least ∷ ps) = (low due && is_fixed_if (separator_of r)) && is_printable low own ps
+is_printable low own (One due least ∷ ps) = low (inside own due) least && is_printable low own ps
+is_printable low own (Group r due least ∷ ps) = (low due least && is_fixed_if (separator_of r)) && is_printable low own ps
 is_printable low own (Then e ∷ ps) = is_printable low own ps
 is_printable low own _ = false
 
-pub record Fit (lows : Sort → Bool) (k : ℕ) (due : Sort) (t : Plain) : Type 0 where
+pub record Fit (lows : Sort → ℕ → Bool) (k : ℕ) (due : Sort) (least : ℕ) (t : Plain) : Type 0 where
   pub stands : stands t.form due ≡ true
   pub is_plain : is_plain t.form ≡ true
   pub right : is_right t.form t.parts ≡ true
   pub valid : valid t.parts ≡ true
   pub pure : pure t.parts ≡ true
-  pub low : lows due ≡ true
+  pub low : lows due least ≡ true
   pub deep : deep_tree t ≤ k
 
 -- what is right, pure and not too deep side by side
@@ -182,8 +182,8 @@ list_least r due es e = right_of (if is_spliced r then all_join due es else all_
 pub list_most : (r : Repetition) (due : Sort) (es : Forest) → elements r due es ≡ true → (not (is_single r) || nat_lt (number es) 2) ≡ true
 list_most r due es e = right_of ((if is_spliced r then all_join due es else all_stand due es) && nat_lt (least_of r) (number es + 1)) (not (is_single r) || nat_lt (number es) 2) e
 
-first_fit : (lows : Sort → Bool) (k : ℕ) (due : Sort) (f : Form) (sp : Span) (ps rest : Forest) → lows due ≡ true → stands f due ≡ true → Fine k (tree f sp ps rest) → Fit lows k due (the_tree f sp ps)
-first_fit lows k due f sp ps rest l s n = let a = is_right f ps in let b = valid ps in let v = left_of (a && b) (valid rest) n.valid in let c = is_plain f in let d = pure ps in let p = left_of (c && d) (pure rest) n.pure in
+first_fit : (lows : Sort → ℕ → Bool) (k : ℕ) (due : Sort) (least : ℕ) (f : Form) (sp : Span) (ps rest : Forest) → lows due least ≡ true → stands f due ≡ true → Fine k (tree f sp ps rest) → Fit lows k due least (the_tree f sp ps)
+first_fit lows k due least f sp ps rest l s n = let a = is_right f ps in let b = valid ps in let v = left_of (a && b) (valid rest) n.valid in let c = is_plain f in let d = pure ps in let p = left_of (c && d) (pure rest) n.pure in
     record { stands = s; is_plain = left_of c d p; right = left_of a b v; valid = right_of a b v; pure = right_of c d p; low = l; deep = let h : max (deep ps + 1) (deep rest) ≤ k = n.deep in omega (arith, h) }
 
 rest_fine : (k : ℕ) (f : Form) (sp : Span) (ps rest : Forest) → Fine k (tree f sp ps rest) → Fine k rest
@@ -207,10 +207,10 @@ module _ (Ready : Sort → Plain → State → Type 0) (Follows : Sort → Plain
     pub does : Does due t i last
 
   -- what is ready and low enough is spelled
-  abbrev pub Prints : Spelling → (Sort → Bool) → ℕ → Type 0
-  Prints S lows k = (due : Sort) (least : ℕ) (t : Plain) (i : Spot) (after : List Shape) (m r : ℕ) → Fit lows k due t → Run w i.place (placed least t) m → Run w m after r → Ready due t i.state → Follows due t after → Found S due least t i m
+  abbrev pub Prints : Spelling → (Sort → ℕ → Bool) → ℕ → Type 0
+  Prints S lows k = (due : Sort) (least : ℕ) (t : Plain) (i : Spot) (after : List Shape) (m r : ℕ) → Fit lows k due least t → Run w i.place (placed least t) m → Run w m after r → Ready due t i.state → Follows due t after → Found S due least t i m
 
-  module _ (S : Spelling) (lows : Sort → Bool) (k : ℕ) (prints : Prints S lows k) where
+  module _ (S : Spelling) (lows : Sort → ℕ → Bool) (k : ℕ) (prints : Prints S lows k) where
     -- ---- elements
 
     -- more elements after others
@@ -227,14 +227,14 @@ module _ (Ready : Sort → Plain → State → Type 0) (Follows : Sort → Plain
     append_nil [] = refl
     append_nil (v ∷ vs) = ap (λ l. v ∷ l) (append_nil vs)
 
-    further : (due : Sort) (least : ℕ) (c : Option Class) (n : ℕ) (vs : List Plain) (es : Forest) (i j : Spot) (after : List Shape) (m r : ℕ) (K : Spot → Type 0) → lows due ≡ true → is_fixed_if c ≡ true → all_stand due es ≡ true → Fine k es
+    further : (due : Sort) (least : ℕ) (c : Option Class) (n : ℕ) (vs : List Plain) (es : Forest) (i j : Spot) (after : List Shape) (m r : ℕ) (K : Spot → Type 0) → lows due least ≡ true → is_fixed_if c ≡ true → all_stand due es ≡ true → Fine k es
         → Chain (S due least) w c n vs i j → Run w j.place (others c least es) m → Run w m after r → ready.OthersReady Ready Follows Does due least c es j after K → Further due least c vs es i m K
     further due least c n vs empty i j after m r K l x s f h run next R = record { more = []; number = n; last = j; chain = subst (λ ts. Chain (S due least) w c n ts i j) (sym (append_nil vs)) h; same = refl; place = run; done = R }
     further due least c n vs (tree g sp ps rest) i j after m r K l x s f h run next R =
         let t : Plain = the_tree g sp ps in
         let b = separator w c j (placed least t ++ others c least rest) m x run in
         let d = cut w (past c j).place (placed least t) (others c least rest) m b.1 in
-        let a = prints due least t (past c j) (others c least rest ++ after) d.middle r (first_fit lows k due g sp ps rest l (left_of (stands g due) (all_stand due rest) s) f) d.first
+        let a = prints due least t (past c j) (others c least rest ++ after) d.middle r (first_fit lows k due least g sp ps rest l (left_of (stands g due) (all_stand due rest) s) f) d.first
         (joined w d.middle m (others c least rest) after r d.second next) R.0 R.1.0 in
         let o = further due least c (suc n) (vs ++ (a.tree ∷ [])) rest i a.last after m r K l x (right_of (stands g due) (all_stand due rest) s) (rest_fine k g sp ps rest f)
         (record { before = vs; last = a.tree; place = j; next = past c j; value = refl; first = h; between = b.0; second = a.spelled })
@@ -262,12 +262,12 @@ module _ (Ready : Sort → Plain → State → Type 0) (Follows : Sort → Plain
     abbrev all_of : Option Class → ℕ → Forest → List Shape
     all_of c least es = separated (if_any (shape_if c)) least (wholes (all_spelled es))
 
-    some_of : (due : Sort) (least : ℕ) (c : Option Class) (g : Form) (sp : Span) (ps rest : Forest) (i : Spot) (after : List Shape) (m r : ℕ) (K : Spot → Type 0) → lows due ≡ true → is_fixed_if c ≡ true → all_stand due (tree g sp ps rest) ≡ true → Fine k (tree g sp ps rest)
+    some_of : (due : Sort) (least : ℕ) (c : Option Class) (g : Form) (sp : Span) (ps rest : Forest) (i : Spot) (after : List Shape) (m r : ℕ) (K : Spot → Type 0) → lows due least ≡ true → is_fixed_if c ≡ true → all_stand due (tree g sp ps rest) ≡ true → Fine k (tree g sp ps rest)
         → Run w i.place (all_of c least (tree g sp ps rest)) m → Run w m after r → ready.AreReady Ready Follows Does due least c (tree g sp ps rest) i after K → Some_of due least c (tree g sp ps rest) i m K
     some_of due least c g sp ps rest i after m r K l x s f run next R =
         let t : Plain = the_tree g sp ps in
         let d = cut w i.place (placed least t) (others c least rest) m run in
-        let a = prints due least t i (others c least rest ++ after) d.middle r (first_fit lows k due g sp ps rest l (left_of (stands g due) (all_stand due rest) s) f) d.first
+        let a = prints due least t i (others c least rest ++ after) d.middle r (first_fit lows k due least g sp ps rest l (left_of (stands g due) (all_stand due rest) s) f) d.first
         (joined w d.middle m (others c least rest) after r d.second next) R.0 R.1.0 in
         let o = further due least c 0 (a.tree ∷ []) rest i a.last after m r K l x (right_of (stands g due) (all_stand due rest) s) (rest_fine k g sp ps rest f)
         (a.tree, (refl, a.spelled))
@@ -293,16 +293,16 @@ module _ (Ready : Sort → Plain → State → Type 0) (Follows : Sort → Plain
     no_least : (n : ℕ) → nat_lt n 1 ≡ true → n ≡ 0
     no_least n e = grind arith
 
-    at_most_one : (due : Sort) (least : ℕ) (g : Form) (sp : Span) (ps rest : Forest) (i : Spot) (after : List Shape) (m r : ℕ) (K : Spot → Type 0) → lows due ≡ true → all_stand due (tree g sp ps rest) ≡ true → nat_lt (number (tree g sp ps rest)) 2 ≡ true → Fine k (tree g sp ps rest)
+    at_most_one : (due : Sort) (least : ℕ) (g : Form) (sp : Span) (ps rest : Forest) (i : Spot) (after : List Shape) (m r : ℕ) (K : Spot → Type 0) → lows due least ≡ true → all_stand due (tree g sp ps rest) ≡ true → nat_lt (number (tree g sp ps rest)) 2 ≡ true → Fine k (tree g sp ps rest)
         → Run w i.place (all_of None least (tree g sp ps rest)) m → Run w m after r → ready.AreReady Ready Follows Does due least None (tree g sp ps rest) i after K → (v : Plain) × ((j : Spot) × (S due least v i j × ((unspanned (tree g sp ps rest) ≡ unspanned (forest (v ∷ []))) × ((j.place ≡ m) × K j))))
     at_most_one due least g sp ps empty i after m r K l s o f run next R =
         let t : Plain = the_tree g sp ps in
         let d = cut w i.place (placed least t) [] m run in
-        let a = prints due least t i after d.middle r (first_fit lows k due g sp ps empty l (left_of (stands g due) true s) f) d.first (subst (λ m. Run w m after r) (sym d.second) next) R.0 R.1.0 in
+        let a = prints due least t i after d.middle r (first_fit lows k due least g sp ps empty l (left_of (stands g due) true s) f) d.first (subst (λ m. Run w m after r) (sym d.second) next) R.0 R.1.0 in
         (a.tree, (a.last, (a.spelled, (one_more g sp ps empty a.tree [] a.alike refl, (a.place ∙ d.second, R.1.1 a.last a.does)))))
     at_most_one due least g sp ps (tree h hp qs rest) i after m r K l s o f run next R = absurd (two_of (number rest) o)
 
-    group_of : (r : Repetition) (due : Sort) (least : ℕ) (before : Before) (es : Forest) (i : Spot) (after : List Shape) (m z : ℕ) (K : Spot → Type 0) → lows due ≡ true → is_fixed_if (separator_of r) ≡ true → all_stand due es ≡ true
+    group_of : (r : Repetition) (due : Sort) (least : ℕ) (before : Before) (es : Forest) (i : Spot) (after : List Shape) (m z : ℕ) (K : Spot → Type 0) → lows due least ≡ true → is_fixed_if (separator_of r) ≡ true → all_stand due es ≡ true
         → nat_lt (least_of r) (number es + 1) ≡ true → (not (is_single r) || nat_lt (number es) 2) ≡ true → Fine k es → Run w i.place (all_of (separator_of r) least es) m → Run w m after z → ready.GroupReady Ready Follows Does r due least before es i after K → Grouped r due least before es i m K
     group_of Optional due least before empty i after m z K l x s a o f run next R = record { trees = []; last = i; group = inl (refl, refl); same = refl; place = run; done = R }
     group_of Optional due least before (tree g sp ps rest) i after m z K l x s a o f run next R =
@@ -371,9 +371,9 @@ module _ (Ready : Sort → Plain → State → Type 0) (Follows : Sort → Plain
         let q : Plain = the_tree g sp qs in
         let d = cut w i.place (placed least q) (spell ps f (all_spelled rest)) m run in
         let a = prints (inside own due) least q i (spell ps f (all_spelled rest) ++ after) d.middle z
-        (first_fit lows k (inside own due) g sp qs rest (left_of (lows (inside own due)) (is_printable lows own ps) b) (stands_inside own due least ps g c (left_of (stands g due) (fits ps rest) t)) n) d.first
+        (first_fit lows k (inside own due) least g sp qs rest (left_of (lows (inside own due) least) (is_printable lows own ps) b) (stands_inside own due least ps g c (left_of (stands g due) (fits ps rest) t)) n) d.first
         (joined w d.middle m (spell ps f (all_spelled rest)) after z d.second next) R.0 R.1.0 in
-        let o = completed own f (before_by (is_absent q)) ps rest a.last after m z K (right_of (lows (inside own due)) (is_printable lows own ps) b) (after_one own due least ps c) (right_of (stands g due) (fits ps rest) t) (rest_fine k g sp qs rest n)
+        let o = completed own f (before_by (is_absent q)) ps rest a.last after m z K (right_of (lows (inside own due) least) (is_printable lows own ps) b) (after_one own due least ps c) (right_of (stands g due) (fits ps rest) t) (rest_fine k g sp qs rest n)
         (subst (λ p. Run w p (spell ps f (all_spelled rest)) m) (sym a.place) d.second) next (R.1.1 a.last a.does) in
         record {
           trees = a.tree ∷ o.trees;
@@ -386,7 +386,7 @@ module _ (Ready : Sort → Plain → State → Type 0) (Follows : Sort → Plain
     completed own f before (Group r due least ∷ ps) empty i after m z K b c t n run next R = absurd R
     completed own f before (Group r due least ∷ ps) (tree g sp es rest) i after m z K b c t n run next R =
         let x = is_printable lows own ps in
-        let l = left_of (lows due && is_fixed_if (separator_of r)) x b in
+        let l = left_of (lows due least && is_fixed_if (separator_of r)) x b in
         let y = is_list_of r due g es in
         let u = right_of (stands g s.List) (elements r due es) (left_of y (fits ps rest) t) in
         let v = nat_lt (least_of r) (number es + 1) in
@@ -394,10 +394,10 @@ module _ (Ready : Sort → Plain → State → Type 0) (Follows : Sort → Plain
         let N = parts_fine k g sp es rest n in
         let d = group_run r least es (spell ps f (all_spelled rest)) i.place m run in
         let a = group_of r due least before es i (spell ps f (all_spelled rest) ++ after) d.middle z (λ j. ready.RowReady Ready Follows Does own f (before_by (is_none es)) ps rest j after K)
-        (left_of (lows due) (is_fixed_if (separator_of r)) l) (right_of (lows due) (is_fixed_if (separator_of r)) l)
+        (left_of (lows due least) (is_fixed_if (separator_of r)) l) (right_of (lows due least) (is_fixed_if (separator_of r)) l)
         (stand_by (is_spliced r) due es N.pure (list_stand r due es u)) (list_least r due es u) (list_most r due es u) N d.first
         (joined w d.middle m (spell ps f (all_spelled rest)) after z d.second next) R in
-        let o = completed own f (before_by (is_none es)) ps rest a.last after m z K (right_of (lows due && is_fixed_if (separator_of r)) x b) (right_of (is_low r) (is_fine own ps) c) (right_of y (fits ps rest) t) (rest_fine k g sp es rest n)
+        let o = completed own f (before_by (is_none es)) ps rest a.last after m z K (right_of (lows due least && is_fixed_if (separator_of r)) x b) (right_of (is_low r) (is_fine own ps) c) (right_of y (fits ps rest) t) (rest_fine k g sp es rest n)
         (subst (λ p. Run w p (spell ps f (all_spelled rest)) m) (sym a.place) d.second) next a.done in
         let q : Plain = node the_list (spanned i.place a.last.place) a.trees in
         let alike : Alike (the_tree g sp es) q = (list_form g (left_of (is_plain g) (pure es) (left_of (is_plain g && pure es) (pure rest) n.pure)) (left_of (stands g s.List) (elements r due es) (left_of y (fits ps rest) t)), a.same) in
