@@ -10,12 +10,9 @@ use Rattle.c_forms.specs.declared.forms.SpecForm.{SpecForm}
 use Rattle.c_forms.specs.declared.forms.SpecForm.TheVariants as spec
 use Rattle.c_forms.specs.declared.forms.DeclaratorForm.{DeclaratorForm}
 use Rattle.c_forms.specs.declared.forms.DeclaratorForm.TheVariants as declarator
-use Rattle.c_forms.specs.declared.forms.ParamsForm.{ParamsForm}
 use Rattle.c_forms.specs.declared.forms.ParamsForm.TheVariants as params
 use Rattle.c_forms.specs.declared.forms.InitForm.TheVariants as init
 use Rattle.c_forms.specs.declared.forms.StmtForm.TheVariants as stmt
-use Rattle.c_forms.specs.declared.forms.ItemForm.TheVariants as item
-use Rattle.c_forms.specs.declared.forms.GroupForm.TheVariants as group
 use Rattle.c_forms.specs.Forests.{Forest}
 use Rattle.c_forms.specs.Fits.{fits}
 use Rattle.c_forms.specs.Measures.{is_plain, pieces}
@@ -24,12 +21,12 @@ use Rattle.c_forms.specs.Rules.{is_nothing, among_rules}
 use Rattle.c_reader.specs.States.{State}
 use Rattle.c_reader.specs.Tokens.{Spot}
 use Rattle.c_syntax.specs.Reading.{Usual}
-use Rattle.c_syntax.specs.Spells.{is_declarator_of, is_of, may_be, started_by, has_no_specifiers}
+use Rattle.c_syntax.specs.Spells.{is_declarator_of, is_of, may_be}
 use Rattle.spelled_trees.specs.Told.{is_named}
 use Rattle.spelled_trees.proofs.Parts.{both}
 use Rattle.c_spelled.proofs.Alone.{type_name_form, member_form, enumerator_form, param_form, decl_form, block_form, init_declarator_form, initializer_form, member_declarator_form, width_form, members_form, enumerators_form, enumerator_value_form, else_part_form, spec_is, plain_spec_is, qualifier_is, init_is, params_is, exp_is, declarator_is, abstract_is, param_is, member_name_is, stmt_is}
 use Rattle.ready_rows.proofs.Ready.{the_tree}
-use Rattle.ready_rows.proofs.Standing.{Ready, Follows, Made, IsCalm, Calms}
+use Rattle.ready_rows.proofs.Standing.{Ready, Follows, Made}
 use Rattle.ready_rows.proofs.Calm.{RowReady}
 use Rattle.ready_expressions.proofs.Expressions.{exp_ready, init_ready, members_ready, else_ready}
 use Rattle.ready_expressions.proofs.Statements.{stmt_ready}
@@ -39,19 +36,13 @@ use Rattle.scoped_spelled.proofs.Specifiers.{qualifier_row, spec_ready}
 use Rattle.scoped_spelled.proofs.Declarations.{value_ready, width_ready, initializer_ready, enumerators_ready, type_name_ready, param_ready}
 use Rattle.scoped_spelled.proofs.Members.{enumerator_ready, init_declarator_ready}
 use Rattle.scoped_spelled.proofs.Decls.{decl_ready}
+use Rattle.scoped_spelled.proofs.Params.{params_ready}
+use Rattle.scoped_spelled.proofs.MemberRows.{member_declarator_ready, member_ready}
 use Rattle.printed_items.proofs.Ranks.{is_node, spec_form}
 
 -- the row of a form that stands as a sort
 abbrev pub Row : Sort → Form → Span → Forest → Spot → List Shape → Type 0
 Row own f sp ts i after = Good own (the_tree f sp ts) → Ready own (the_tree f sp ts) i.state → Follows own (the_tree f sp ts) after → RowReady own f Usual (pieces f) ts i after (λ j. Made own (the_tree f sp ts) i.state j.state)
-
--- rows that are ready by laws of their own
-pub record Rows : Type 0 where
-  pub params : (f : ParamsForm) (sp : Span) (ts : Forest) (i : Spot) (after : List Shape) → Row s.Params (form.Params f) sp ts i after
-  pub member : (sp : Span) (ts : Forest) (i : Spot) (after : List Shape) → Row s.Member form.Member sp ts i after
-  pub member_declarator : (sp : Span) (ts : Forest) (i : Spot) (after : List Shape) → Row s.MemberDeclarator (form.Group group.MemberDeclarator) sp ts i after
-  pub function : (sp : Span) (ts : Forest) (i : Spot) (after : List Shape) → Good s.Item (the_tree (form.Item item.Function) sp ts) → IsCalm (the_tree (form.Item item.Function) sp ts) i.state
-      → RowReady s.Item (form.Item item.Function) Usual (pieces (form.Item item.Function)) ts (started_by (has_no_specifiers (the_tree (form.Item item.Function) sp ts)) i) after (λ j. Calms (the_tree (form.Item item.Function) sp ts) i.state j.state)
 
 -- ---- which form may stand
 
@@ -113,11 +104,11 @@ qualified (spec.Qualifier q) sp ts i after n r c = qualifier_row s.Qualifier q s
 qualified (spec.Storage k) sp ts i after n r c = absurd (cc n.stands)
 qualified g sp ts i after n r c = absurd (cc n.stands)
 
-module _ (laws : Rows) (sp : Span) (ts : Forest) (i : Spot) (after : List Shape) where
+module _ (sp : Span) (ts : Forest) (i : Spot) (after : List Shape) where
   params_row : (f : Form) → (f ≡ form.Params params.Ids) ⊎ ((f ≡ form.Params params.Typed) ⊎ (f ≡ form.Params params.TypedAndMore)) → Row s.Params f sp ts i after
-  params_row f (inl e) = one_row s.Params f _ sp ts i after e (laws.params params.Ids sp ts i after)
-  params_row f (inr (inl e)) = one_row s.Params f _ sp ts i after e (laws.params params.Typed sp ts i after)
-  params_row f (inr (inr e)) = one_row s.Params f _ sp ts i after e (laws.params params.TypedAndMore sp ts i after)
+  params_row f (inl e) = one_row s.Params f _ sp ts i after e (λ n r c. params_ready s.Params params.Ids sp ts i after (fitting s.Params _ sp ts n) n.pure n.valid c r.0 r.1.0)
+  params_row f (inr (inl e)) = one_row s.Params f _ sp ts i after e (λ n r c. params_ready s.Params params.Typed sp ts i after (fitting s.Params _ sp ts n) n.pure n.valid c r.0 r.1.0)
+  params_row f (inr (inr e)) = one_row s.Params f _ sp ts i after e (λ n r c. params_ready s.Params params.TypedAndMore sp ts i after (fitting s.Params _ sp ts n) n.pure n.valid c r.0 r.1.0)
 
   init_row : (f : Form) → (f ≡ form.Init init.One) ⊎ (f ≡ form.Init init.Braces) → Row s.Init f sp ts i after
   init_row f (inl e) = one_row s.Init f _ sp ts i after e (λ n r c. init_ready s.Init init.One sp ts i after (fitting s.Init _ sp ts n) n.pure r)
@@ -129,7 +120,7 @@ module _ (laws : Rows) (sp : Span) (ts : Forest) (i : Spot) (after : List Shape)
   row_of s.Spec f x m = let o = spec_form f (spec_is f m) in one_row s.Spec f _ sp ts i after o.1 (λ n r c. spec_ready s.Spec o.0 sp ts i after (fitting s.Spec _ sp ts n) n.pure (ruled s.Spec _ sp ts n) r.0 r.1)
   row_of s.PlainSpec f x m = let o = spec_form f (plain_spec_is f m) in one_row s.PlainSpec f _ sp ts i after o.1 (λ n r c. spec_ready s.PlainSpec o.0 sp ts i after (fitting s.PlainSpec _ sp ts n) n.pure (ruled s.PlainSpec _ sp ts n) r.0 r.1)
   row_of s.Qualifier f x m = let o = spec_form f (qualifier_is f m) in one_row s.Qualifier f _ sp ts i after o.1 (qualified o.0 sp ts i after)
-  row_of s.Member f x m = one_row s.Member f _ sp ts i after (member_form f m) (laws.member sp ts i after)
+  row_of s.Member f x m = one_row s.Member f _ sp ts i after (member_form f m) (λ n r c. member_ready s.Member sp ts i after (fitting s.Member _ sp ts n) n.pure n.valid (ruled s.Member _ sp ts n) r)
   row_of s.Enumerator f x m = one_row s.Enumerator f _ sp ts i after (enumerator_form f m) (λ n r c. enumerator_ready s.Enumerator sp ts i after (fitting s.Enumerator _ sp ts n) n.pure r)
   row_of s.Declarator f x m = let o = declarator_is f m in one_row s.Declarator f _ sp ts i after o.1 (λ n r c. declarator_ready s.Declarator o.0 sp ts i after (fitting s.Declarator _ sp ts n) n.pure n.valid (ruled s.Declarator _ sp ts n) r.0 r.1)
   row_of s.AbstractDeclarator f x m = let o = abstract_is f m in one_row s.AbstractDeclarator f _ sp ts i after o.1 (λ n r c. declarator_ready s.AbstractDeclarator o.0 sp ts i after (fitting s.AbstractDeclarator _ sp ts n) n.pure n.valid (ruled s.AbstractDeclarator _ sp ts n) r.0 r.1)
@@ -143,7 +134,7 @@ module _ (laws : Rows) (sp : Span) (ts : Forest) (i : Spot) (after : List Shape)
   row_of s.Block f x m = one_row s.Block f _ sp ts i after (block_form f m) (λ n r c. stmt_ready s.Block stmt.Block sp ts i after (fitting s.Block _ sp ts n) n.pure n.valid (ruled s.Block _ sp ts n) (λ e. absurd (cc e)) r)
   row_of s.InitDeclarator f x m = one_row s.InitDeclarator f _ sp ts i after (init_declarator_form f m) (λ n r c. init_declarator_ready s.InitDeclarator sp ts i after (fitting s.InitDeclarator _ sp ts n) n.pure n.valid (ruled s.InitDeclarator _ sp ts n) r.0 r.1)
   row_of s.Initializer f x m = one_row s.Initializer f _ sp ts i after (initializer_form f m) (λ n r c. initializer_ready s.Initializer sp ts i after (fitting s.Initializer _ sp ts n) n.pure r)
-  row_of s.MemberDeclarator f x m = one_row s.MemberDeclarator f _ sp ts i after (member_declarator_form f m) (laws.member_declarator sp ts i after)
+  row_of s.MemberDeclarator f x m = one_row s.MemberDeclarator f _ sp ts i after (member_declarator_form f m) (λ n r c. member_declarator_ready s.MemberDeclarator sp ts i after (fitting s.MemberDeclarator _ sp ts n) n.pure n.valid (ruled s.MemberDeclarator _ sp ts n) r.1 r.0)
   row_of s.Width f x m = one_row s.Width f _ sp ts i after (width_form f m) (λ n r c. width_ready s.Width sp ts i after (fitting s.Width _ sp ts n) n.pure r)
   row_of s.Members f x m = one_row s.Members f _ sp ts i after (members_form f m) (λ n r c. members_ready s.Members sp ts i after (fitting s.Members _ sp ts n) n.pure r)
   row_of s.Enumerators f x m = one_row s.Enumerators f _ sp ts i after (enumerators_form f m) (λ n r c. enumerators_ready s.Enumerators sp ts i after (fitting s.Enumerators _ sp ts n) n.pure r)

@@ -21,7 +21,6 @@ use Rattle.ready_rows.specs.Printed.{Run, IsItem, Respelled}
 use Rattle.ready_rows.proofs.Rows.{Fit}
 use Rattle.ready_rows.proofs.Steps.{one_end}
 use Rattle.printed_items.proofs.Ranks.{low}
-use Rattle.printed_items.proofs.Forms.{Rows}
 use Rattle.printed_items.proofs.Wrapped.{unwrapped}
 use Rattle.printed_items.proofs.Whole.{printed}
 
@@ -43,9 +42,9 @@ fit t I = record {
 }
 
 -- Where no declaration is begun and the events of an item hold, its tokens spell it, with twice as many levels as it is deep.
-pub respelled : Rows → (d : ℕ) (w : List Shape) (t : Plain) (i : Spot) (m : ℕ) (fs : List Frame) → IsItem t → 2 * deep_tree t ≤ d → Run w i.place (tokens t) m → i.state.kept ≡ nothing_kept → settled (events t) (frames i.state.entries) ≡ Scoped fs → Respelled d w t i m fs
-respelled laws d w t i m fs I h run free e =
-    let x = printed laws w (deep_tree t) d h s.Item 0 t i [] m m (fit t I) (subst (λ xs. Run w i.place xs m) (sym (unwrapped 0 t (never_less (level t.form)))) run) refl (free, (fs, e)) tt in record {
+pub respelled : (d : ℕ) (w : List Shape) (t : Plain) (i : Spot) (m : ℕ) (fs : List Frame) → IsItem t → 2 * deep_tree t ≤ d → Run w i.place (tokens t) m → i.state.kept ≡ nothing_kept → settled (events t) (frames i.state.entries) ≡ Scoped fs → Respelled d w t i m fs
+respelled d w t i m fs I h run free e =
+    let x = printed w (deep_tree t) d h s.Item 0 t i [] m m (fit t I) (subst (λ xs. Run w i.place xs m) (sym (unwrapped 0 t (never_less (level t.form)))) run) refl (free, (fs, e)) tt in record {
       tree = x.tree;
       last = x.last;
       alike = x.alike;

@@ -32,11 +32,7 @@ use Rattle.ready_expressions.proofs.Expressions.{seen_value}
 use Rattle.ready_expressions.proofs.Heads.{id_form, literal_form}
 use Rattle.ready_expressions.proofs.Declarators.{declared_stands}
 use Rattle.scoped_spelled.proofs.Members.{enumerated_stands}
-
-pub parameter_stands : (f : Form) → is_plain f ≡ true → stands f s.ParameterId ≡ true → stands f s.Id ≡ true
-parameter_stands (form.Hole h) p e = absurd (cc p)
-parameter_stands (form.Call n gives tail) p e = absurd (cc p)
-parameter_stands f p e = e
+use Rattle.scoped_spelled.proofs.Params.{parameter_stands}
 
 same_word : (v w : Word) → form.Id v ≡ form.Id w → v ≡ w
 same_word v w e = cc e

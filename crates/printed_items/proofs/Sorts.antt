@@ -38,12 +38,15 @@ use Rattle.ready_rows.proofs.Nodes.{Spelled, node_spelled}
 use Rattle.ready_rows.proofs.Standing.{Ready, Follows, Made, Does, Calms}
 use Rattle.ready_rows.proofs.Calm.{RowReady}
 use Rattle.ready_expressions.proofs.Expressions.{declaration_ready}
-use Rattle.ready_expressions.proofs.Heads.{Good, good_fits, right_fits, id_form, literal_form}
+use Rattle.ready_expressions.proofs.Heads.{Good, good_fits, right_fits, right_rules, id_form, literal_form}
 use Rattle.ready_expressions.proofs.Declarators.{declared_stands}
+use Rattle.scoped_spelled.proofs.Declarations.{opposed}
 use Rattle.scoped_spelled.proofs.Members.{enumerated_stands}
+use Rattle.scoped_spelled.proofs.Params.{parameter_stands}
+use Rattle.scoped_spelled.proofs.Functions.{function_ready}
 use Rattle.printed_items.proofs.Ranks.{rank, low, most, room, may_wrap, is_node, printable, level_top}
-use Rattle.printed_items.proofs.Leaves.{Stood, stood, id_stood, declared_stood, parameter_stood, enumerator_stood, literal_stood, parameter_stands}
-use Rattle.printed_items.proofs.Forms.{Rows, is_row, row_is_node, row_of, may_of}
+use Rattle.printed_items.proofs.Leaves.{Stood, stood, id_stood, declared_stood, parameter_stood, enumerator_stood, literal_stood}
+use Rattle.printed_items.proofs.Forms.{is_row, row_is_node, row_of, may_of}
 use Rattle.printed_items.proofs.Wrapped.{PrintsTight, unwrapped, wrapped, good_of, in_parentheses}
 
 -- ---- trees that are equal but for their spans
@@ -87,9 +90,6 @@ block_item (form.Template (template.Many k)) p e = absurd (cc e)
 block_item (form.Group group.List) p e = absurd (cc e)
 block_item f p e = absurd (cc e)
 
-opposed : {A : Type 0} {b : Bool} → b ≡ true → b ≡ false → A
-opposed e f = absurd (cc (e, f))
-
 at_least : (l n : ℕ) → nat_lt l n ≡ false → n ≤ l
 at_least l n e = grind arith
 
@@ -105,7 +105,7 @@ started_place false i = refl
 
 -- ---- nodes
 
-module _ (laws : Rows) (deeper inner : Spelling) (w : List Shape) (n k : ℕ) (scopes : Scopes (At (Unit {0}) deeper inner w)) (D : Prints Ready Follows Does w deeper (low places) k) (I : Prints Ready Follows Does w inner (low n) k) where
+module _ (deeper inner : Spelling) (w : List Shape) (n k : ℕ) (scopes : Scopes (At (Unit {0}) deeper inner w)) (D : Prints Ready Follows Does w deeper (low places) k) (I : Prints Ready Follows Does w inner (low n) k) where
   parts_print : (b : Bool) → Prints Ready Follows Does w (parts_spelled b deeper inner) (low (room b n)) k
   parts_print true = D
   parts_print false = I
@@ -127,7 +127,7 @@ module _ (laws : Rows) (deeper inner : Spelling) (w : List Shape) (n k : ℕ) (s
   row_at : (own : Sort) (least : ℕ) (f : Form) (sp : Span) (ts : Forest) (i : Spot) (after : List Shape) (m z : ℕ) → is_row own ≡ true → nat_lt (rank own) (suc n) ≡ true → Good own (the_tree f sp ts) → deep_tree (the_tree f sp ts) ≤ suc k
       → nat_lt (level f) least ≡ false → Run w i.place (tokens (the_tree f sp ts)) m → Run w m after z → Ready own (the_tree f sp ts) i.state → Follows own (the_tree f sp ts) after → Node own least (the_tree f sp ts) i m (λ j. Made own (the_tree f sp ts) i.state j.state)
   row_at own least f sp ts i after m z x r g d l run next R O = let may = may_of own f sp ts i.state g.is_plain g.stands R in
-      node_at own least f sp ts i after m z (λ j. Made own (the_tree f sp ts) i.state j.state) (row_is_node own x) r may g d l run next (row_of laws sp ts i after own f x may g R O)
+      node_at own least f sp ts i after m z (λ j. Made own (the_tree f sp ts) i.state j.state) (row_is_node own x) r may g d l run next (row_of sp ts i after own f x may g R O)
 
   ranked : (due : Sort) (least : ℕ) (t : Plain) → Fit (low (suc n)) (suc k) due least t → nat_lt (rank due) (suc n) ≡ true
   ranked due least t F = left_of (nat_lt (rank due) (suc n)) (nat_lt least (most due)) F.low
@@ -162,7 +162,7 @@ module _ (laws : Rows) (deeper inner : Spelling) (w : List Shape) (n k : ℕ) (s
   item_row : (sp : Span) (ts : Forest) (i : Spot) (after : List Shape) (f : Form) → (f ≡ form.Item item.Function) ⊎ (f ≡ form.Item item.Declaration) → Good s.Item (the_tree f sp ts) → Ready s.Item (the_tree f sp ts) i.state
       → RowReady s.Item f Usual (pieces f) ts (started_by (has_no_specifiers (the_tree f sp ts)) i) after (λ j. Calms (the_tree f sp ts) i.state j.state)
   item_row sp ts i after f (inl e) g R = subst (λ f. Good s.Item (the_tree f sp ts) → Ready s.Item (the_tree f sp ts) i.state → RowReady s.Item f Usual (pieces f) ts (started_by (has_no_specifiers (the_tree f sp ts)) i) after (λ j. Calms (the_tree f sp ts) i.state j.state)) (sym e)
-      (λ g R. laws.function sp ts i after g R) g R
+      (λ g R. function_ready s.Item sp ts i after (good_fits s.Item (the_tree (form.Item item.Function) sp ts) g) g.pure g.valid (right_rules (form.Item item.Function) ts g.right) R) g R
   item_row sp ts i after f (inr e) g R = subst (λ f. Good s.Item (the_tree f sp ts) → Ready s.Item (the_tree f sp ts) i.state → RowReady s.Item f Usual (pieces f) ts (started_by (has_no_specifiers (the_tree f sp ts)) i) after (λ j. Calms (the_tree f sp ts) i.state j.state)) (sym e)
       (λ g R. declaration_ready s.Item sp ts i after (good_fits s.Item (the_tree (form.Item item.Declaration) sp ts) g) g.pure R) g R
 

@@ -12,7 +12,6 @@ use Rattle.spelled_trees.proofs.Trees.{telling}
 use Rattle.ready_rows.proofs.Rows.{Prints}
 use Rattle.ready_rows.proofs.Standing.{Ready, Follows, Does}
 use Rattle.printed_items.proofs.Ranks.{rank, low, most}
-use Rattle.printed_items.proofs.Forms.{Rows}
 use Rattle.printed_items.proofs.Wrapped.{PrintsTight, tight}
 use Rattle.printed_items.proofs.Sorts.{at_tight, at_placed}
 
@@ -29,7 +28,7 @@ no_depth n h = omega (arith, h)
 shallower : (w : List Shape) (S : Spelling) (lows : Sort → ℕ → Bool) (k : ℕ) → Printing w S lows (suc k) → Printing w S lows k
 shallower w S lows k P due least t i after m r F = P due least t i after m r (record { stands = F.stands; is_plain = F.is_plain; right = F.right; valid = F.valid; pure = F.pure; low = F.low; deep = let h = F.deep in omega (arith, h) })
 
-module _ (laws : Rows) (d : ℕ) (w : List Shape) where
+module _ (d : ℕ) (w : List Shape) where
   abbrev placed : ℕ → Spelling
   placed n = InPlace n (Unit {0}) (Spells d w) w
 
@@ -42,28 +41,28 @@ module _ (laws : Rows) (d : ℕ) (w : List Shape) where
   in_place zero k P due least t i after m r F run next R O = absurd (no_place (rank due) (left_of (nat_lt (rank due) 0) (nat_lt least (most due)) F.low))
   in_place (suc n) zero P due least t i after m r F run next R O = absurd (no_depth (deep t.parts) F.deep)
   in_place (suc n) (suc k) P due least t i after m r F run next R O =
-      at_placed laws (Spells d w) (placed n) w n k (scopes (suc n)) (shallower w (Spells d w) (low places) k P) (shallower w (placed n) (low n) k (in_place n (suc k) P)) (tight w (Spells d w) (low places) (suc k) P) due least t i after m r F run next R O
+      at_placed (Spells d w) (placed n) w n k (scopes (suc n)) (shallower w (Spells d w) (low places) k P) (shallower w (placed n) (low n) k (in_place n (suc k) P)) (tight w (Spells d w) (low places) (suc k) P) due least t i after m r F run next R O
 
   -- and one more, where no parentheses are added
   tight_in_place : (n k : ℕ) → Printing w (Spells d w) (low places) k → PrintsTight w (placed n) (low n) (suc k)
   unfolding InPlace
   tight_in_place zero k P due least t i after m r F l run next R O = absurd (no_place (rank due) (left_of (nat_lt (rank due) 0) (nat_lt least (most due)) F.low))
-  tight_in_place (suc n) k P due least t i after m r F l run next R O = at_tight laws (Spells d w) (placed n) w n k (scopes (suc n)) P (in_place n k P) due least t i after m r F l run next R O
+  tight_in_place (suc n) k P due least t i after m r F l run next R O = at_tight (Spells d w) (placed n) w n k (scopes (suc n)) P (in_place n k P) due least t i after m r F l run next R O
 
   -- and one more in parentheses too, where it is spelled one level deeper without
   whole_in_place : (n k : ℕ) → Printing w (Spells d w) (low places) k → PrintsTight w (Spells d w) (low places) (suc k) → Printing w (placed n) (low n) (suc k)
   unfolding InPlace
   whole_in_place zero k P T due least t i after m r F run next R O = absurd (no_place (rank due) (left_of (nat_lt (rank due) 0) (nat_lt least (most due)) F.low))
-  whole_in_place (suc n) k P T due least t i after m r F run next R O = at_placed laws (Spells d w) (placed n) w n k (scopes (suc n)) P (in_place n k P) T due least t i after m r F run next R O
+  whole_in_place (suc n) k P T due least t i after m r F run next R O = at_placed (Spells d w) (placed n) w n k (scopes (suc n)) P (in_place n k P) T due least t i after m r F run next R O
 
-module _ (laws : Rows) (w : List Shape) where
+module _ (w : List Shape) where
   tight_once : (k d : ℕ) → Printing w (Spells d w) (low places) k → PrintsTight w (Spells (suc d) w) (low places) (suc k)
   unfolding Spells
-  tight_once k d P = tight_in_place laws d w places k P
+  tight_once k d P = tight_in_place d w places k P
 
   whole_once : (k d : ℕ) → Printing w (Spells d w) (low places) k → PrintsTight w (Spells d w) (low places) (suc k) → Printing w (Spells (suc d) w) (low places) (suc k)
   unfolding Spells
-  whole_once k d P T = whole_in_place laws d w places k P T
+  whole_once k d P T = whole_in_place d w places k P T
 
   half : (k d : ℕ) → 2 * suc k ≤ suc (suc d) → 2 * k ≤ d
   half k d h = omega (arith, h)

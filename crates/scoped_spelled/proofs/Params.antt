@@ -120,7 +120,7 @@ typed_done t kp es m u gs x y p v e h H =
 
 -- ---- identifier lists
 
-parameter_stands : (f : Form) → is_plain f ≡ true → stands f s.ParameterId ≡ true → stands f s.Id ≡ true
+pub parameter_stands : (f : Form) → is_plain f ≡ true → stands f s.ParameterId ≡ true → stands f s.Id ≡ true
 parameter_stands (form.Hole h) p e = absurd (cc p)
 parameter_stands (form.Call n gives tail) p e = absurd (cc p)
 parameter_stands f p e = e
