@@ -1,8 +1,8 @@
 mod Off
-mod Opens
+pub mod Opens
 mod LeveledRows
 mod Rows
-mod Begins
+pub mod Begins
 mod Turns
 mod Groups
 mod Pieces

@@ -5,3 +5,5 @@ pub mod Wrapped
 pub mod Sorts
 pub mod Whole
 pub mod Items
+pub mod Steps
+pub mod Lists

@@ -99,7 +99,7 @@ less_deep n k h = omega (arith, h)
 fewer : (n : ℕ) → nat_lt 5 (suc n) ≡ true → nat_lt 2 (suc n) ≡ true
 fewer n e = grind arith
 
-started_place : (b : Bool) (i : Spot) → (started_by b i).place ≡ i.place
+pub started_place : (b : Bool) (i : Spot) → (started_by b i).place ≡ i.place
 started_place true i = refl
 started_place false i = refl
 
