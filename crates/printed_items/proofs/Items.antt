@@ -9,8 +9,7 @@ use Rattle.c_reader.specs.States.{nothing_kept}
 use Rattle.c_reader.specs.Tokens.{Spot}
 use Rattle.c_syntax.specs.Allowed.{places}
 use Rattle.c_layout.specs.Spelled.{tokens}
-use Rattle.c_trees.specs.Counts.{pure}
-use Rattle.c_trees.specs.Deep.{deep_tree}
+use Rattle.c_trees.specs.Counts.{pure, high_tree}
 use Rattle.c_trees.specs.Valid.{valid}
 use Rattle.scope_tables.specs.Frames.{Frame}
 use Rattle.scopes.specs.Events.{events}
@@ -27,10 +26,10 @@ use Rattle.printed_items.proofs.Whole.{printed}
 never_less : (n : ℕ) → nat_lt n 0 ≡ false
 never_less n = grind arith
 
-same_depth : (n : ℕ) → n ≤ n
-same_depth n = omega arith
+same_height : (n : ℕ) → n ≤ n
+same_height n = omega arith
 
-fit : (t : Plain) → IsItem t → Fit (low places) (deep_tree t) s.Item 0 t
+fit : (t : Plain) → IsItem t → Fit (low places) (high_tree t) s.Item 0 t
 fit t I = record {
   stands = I.stands;
   is_plain = left_of (is_plain t.form) (pure t.parts) I.pure;
@@ -38,13 +37,13 @@ fit t I = record {
   valid = right_of (is_right t.form t.parts) (valid t.parts) I.valid;
   pure = right_of (is_plain t.form) (pure t.parts) I.pure;
   low = refl;
-  deep = same_depth (deep_tree t);
+  high = same_height (high_tree t);
 }
 
--- Where no declaration is begun and the events of an item hold, its tokens spell it, with twice as many levels as it is deep.
-pub respelled : (d : ℕ) (w : List Shape) (t : Plain) (i : Spot) (m : ℕ) (fs : List Frame) → IsItem t → 2 * deep_tree t ≤ d → Run w i.place (tokens t) m → i.state.kept ≡ nothing_kept → settled (events t) (frames i.state.entries) ≡ Scoped fs → Respelled d w t i m fs
+-- Where no declaration is begun and the events of an item hold, its tokens spell it, with twice as many levels as it is high.
+pub respelled : (d : ℕ) (w : List Shape) (t : Plain) (i : Spot) (m : ℕ) (fs : List Frame) → IsItem t → 2 * high_tree t ≤ d → Run w i.place (tokens t) m → i.state.kept ≡ nothing_kept → settled (events t) (frames i.state.entries) ≡ Scoped fs → Respelled d w t i m fs
 respelled d w t i m fs I h run free e =
-    let x = printed w (deep_tree t) d h s.Item 0 t i [] m m (fit t I) (subst (λ xs. Run w i.place xs m) (sym (unwrapped 0 t (never_less (level t.form)))) run) refl (free, (fs, e)) tt in record {
+    let x = printed w (high_tree t) d h s.Item 0 t i [] m m (fit t I) (subst (λ xs. Run w i.place xs m) (sym (unwrapped 0 t (never_less (level t.form)))) run) refl (free, (fs, e)) tt in record {
       tree = x.tree;
       last = x.last;
       alike = x.alike;

@@ -20,7 +20,7 @@ use Rattle.c_forms.specs.declared.forms.TemplateForm.TheVariants as template
 use Rattle.c_forms.specs.declared.forms.GroupForm.TheVariants as group
 use Rattle.c_forms.specs.Forests.{Plain, Forest, empty, tree, forest, node}
 use Rattle.c_forms.specs.Fits.{fits, elements, all_stand, all_join, number, least_of, is_single, is_spliced, is_list_of}
-use Rattle.c_forms.specs.Measures.{is_plain}
+use Rattle.c_forms.specs.Measures.{is_plain, star}
 use Rattle.c_forms.specs.declared.places.Occupant.{Occupant}
 use Rattle.c_forms.specs.declared.places.Occupant.TheVariants as what
 use Rattle.c_forms.specs.Places.{serves, stands, stands_as, occupant_of, joins}
@@ -32,8 +32,7 @@ use Rattle.c_reader.specs.States as States
 use Rattle.c_reader.specs.Tokens.{Spot, step, turned, raw_at}
 use Rattle.c_syntax.specs.Reading.{Before, Usual, before_by, is_absent_form, is_absent, inside, spanned, the_list, separator_of}
 use Rattle.c_syntax.specs.Spells.{Spelling, Is, Separated, Chain, Elements, IsGroup, NoneBegins, Matches}
-use Rattle.c_trees.specs.Counts.{pure}
-use Rattle.c_trees.specs.Deep.{deep, deep_tree}
+use Rattle.c_trees.specs.Counts.{pure, high, high_tree}
 use Rattle.c_trees.specs.Valid.{valid}
 use Rattle.c_layout.specs.Marks.{shape_of, shape_if, if_any}
 use Rattle.c_layout.specs.Marks as Marks
@@ -164,13 +163,13 @@ pub record Fit (lows : Sort → ℕ → Bool) (k : ℕ) (due : Sort) (least : �
   pub valid : valid t.parts ≡ true
   pub pure : pure t.parts ≡ true
   pub low : lows due least ≡ true
-  pub deep : deep_tree t ≤ k
+  pub high : high_tree t ≤ k
 
--- what is right, pure and not too deep side by side
+-- what is right, pure and not too high side by side
 pub record Fine (k : ℕ) (ts : Forest) : Type 0 where
   pub valid : valid ts ≡ true
   pub pure : pure ts ≡ true
-  pub deep : deep ts ≤ k
+  pub high : high ts ≤ k
 
 -- elements of a list
 pub list_stand : (r : Repetition) (due : Sort) (es : Forest) → elements r due es ≡ true → (if is_spliced r then all_join due es else all_stand due es) ≡ true
@@ -184,16 +183,16 @@ list_most r due es e = right_of ((if is_spliced r then all_join due es else all_
 
 first_fit : (lows : Sort → ℕ → Bool) (k : ℕ) (due : Sort) (least : ℕ) (f : Form) (sp : Span) (ps rest : Forest) → lows due least ≡ true → stands f due ≡ true → Fine k (tree f sp ps rest) → Fit lows k due least (the_tree f sp ps)
 first_fit lows k due least f sp ps rest l s n = let a = is_right f ps in let b = valid ps in let v = left_of (a && b) (valid rest) n.valid in let c = is_plain f in let d = pure ps in let p = left_of (c && d) (pure rest) n.pure in
-    record { stands = s; is_plain = left_of c d p; right = left_of a b v; valid = right_of a b v; pure = right_of c d p; low = l; deep = let h : max (deep ps + 1) (deep rest) ≤ k = n.deep in omega (arith, h) }
+    record { stands = s; is_plain = left_of c d p; right = left_of a b v; valid = right_of a b v; pure = right_of c d p; low = l; high = let h : max (star f + high ps) (high rest) ≤ k = n.high in omega (arith, h) }
 
 rest_fine : (k : ℕ) (f : Form) (sp : Span) (ps rest : Forest) → Fine k (tree f sp ps rest) → Fine k rest
-rest_fine k f sp ps rest n = record { valid = right_of (is_right f ps && valid ps) (valid rest) n.valid; pure = right_of (is_plain f && pure ps) (pure rest) n.pure; deep = let h : max (deep ps + 1) (deep rest) ≤ k = n.deep in omega (arith, h) }
+rest_fine k f sp ps rest n = record { valid = right_of (is_right f ps && valid ps) (valid rest) n.valid; pure = right_of (is_plain f && pure ps) (pure rest) n.pure; high = let h : max (star f + high ps) (high rest) ≤ k = n.high in omega (arith, h) }
 
 parts_fine : (k : ℕ) (f : Form) (sp : Span) (ps rest : Forest) → Fine k (tree f sp ps rest) → Fine k ps
 parts_fine k f sp ps rest n = record {
   valid = right_of (is_right f ps) (valid ps) (left_of (is_right f ps && valid ps) (valid rest) n.valid);
   pure = right_of (is_plain f) (pure ps) (left_of (is_plain f && pure ps) (pure rest) n.pure);
-  deep = let h : max (deep ps + 1) (deep rest) ≤ k = n.deep in omega (arith, h);
+  high = let h : max (star f + high ps) (high rest) ≤ k = n.high in omega (arith, h);
 }
 
 module _ (Ready : Sort → Plain → State → Type 0) (Follows : Sort → Plain → List Shape → Type 0) (Does : Sort → Plain → Spot → Spot → Type 0) (w : List Shape) where
