@@ -1,3 +1,3 @@
 //! What is printed is spelled: the tokens of a valid tree of plain C that is scoped, with the least parentheses, spell it.
-//! So far: specifiers and declarations are ready where their events hold.
+//! Specifiers, members, parameters, declarations and functions are ready where their events hold.
 #![tactic(auto)]
