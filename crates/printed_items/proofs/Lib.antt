@@ -7,3 +7,4 @@ pub mod Whole
 pub mod Items
 pub mod Steps
 pub mod Lists
+pub mod Sources

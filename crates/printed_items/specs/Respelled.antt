@@ -1,13 +1,17 @@
 -- Tokens that spell the items that they are the tokens of, and nothing else.
-use Rattle.std.specs.Prelude.{◌≡◌, ℕ, List, [], ◌∷◌}
+use Rattle.std.specs.Prelude.{◌≡◌, ℕ, false, List, [], ◌∷◌}
 use Rattle.c_tokens.specs.declared.token.Shape.{Shape}
 use Rattle.c_forms.specs.Forests.{Plain}
-use Rattle.c_reader.specs.States.{nothing_kept}
+use Rattle.c_reader.specs.States.{State, nothing_kept}
 use Rattle.c_reader.specs.Tokens.{Spot}
 use Rattle.scope_tables.specs.Frames.{Frame}
 use Rattle.spelled_scopes.specs.Agreement.{Alike, Items}
 use Rattle.spelled_scopes.specs.Meant.{frames}
 use Rattle.ready_rows.specs.Printed.{IsItem}
+
+-- what is known where a source begins: no word is declared
+abbrev pub file_start : State
+file_start = record { entries = []; is_late = false; kept = nothing_kept; aside = [] }
 
 abbrev pub AreItems : List Plain → Type 0
 AreItems [] = Unit {0}
