@@ -28,6 +28,7 @@ impl<
     F: Copy + Fn(Global, &mut Cursor<'_>, usize, u8, Sort, u8) -> Result<Found, Refusal>,
 > Declarations<F> {
     /// A declarator that holds together at least as tightly as a level.
+    #[inline(never)]
     #[tactic(auto, unfolding(c_syntax::specs::Grammar::declarator_of))]
     pub fn declarator(
         &self,

@@ -12,12 +12,13 @@ use c_tokens::{Class, Punct};
 use form_decisions::may_begin;
 use std::alloc::Global;
 use table_parser::words::is_value;
-use table_parser::{Before, Cursor, Found, Listed, Part, node};
+use table_parser::{Before, Cursor, Found, Gathered, Listed, Part, node};
 
 impl<
     F: Copy + Fn(Global, &mut Cursor<'_>, usize, u8, Sort, u8) -> Result<Found, Refusal>,
 > Declarations<F> {
     /// Parameters with their types, or a list of names.
+    #[inline(never)]
     #[tactic(auto, unfolding(c_syntax::specs::Grammar::parameters))]
     pub fn parameters(&self, cursor: &mut Cursor<'_>) -> Result<Found, Refusal>
         requires depth { self.now.grammar.depth ≤ 1000 }
@@ -59,9 +60,10 @@ impl<
             due: Sort::Param,
             least: 0,
         };
-        let (first, all) = self
-            .grammar
-            .gathered(cursor, repetition, part, Before::Usual)?;
+        let first = cursor.place();
+        let mut all = Gathered::none_at(first);
+        self.grammar
+            .gathered(cursor, repetition, part, Before::Usual, &mut all)?;
         if all.is_ended() {
             let list = all.list_from(self.grammar.alloc, first)?;
             cursor.take(ellipsis)?;

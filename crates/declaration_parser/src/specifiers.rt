@@ -20,6 +20,7 @@ impl<
     F: Copy + Fn(Global, &mut Cursor<'_>, usize, u8, Sort, u8) -> Result<Found, Refusal>,
 > Declarations<F> {
     /// A specifier or qualifier, of a sort of specifiers.
+    #[inline(never)]
     #[tactic(auto, unfolding(c_syntax::specs::Grammar::specifier), using(crate::proofs::Specs::spec_form))]
     pub fn specifier(&self, cursor: &mut Cursor<'_>, due: Sort) -> Result<Found, Refusal>
         requires depth { self.now.grammar.depth ≤ 1000 }

@@ -1,6 +1,6 @@
 //! Drafts side by side.
 
-ghost use Rattle.std.specs.Prelude.{◌≡◌, ◌++◌, ◌∷◌, [], length, OnOk, OnErr, ◌↔◌, IsTrue};
+ghost use Rattle.std.specs.Prelude.{◌≡◌, ◌++◌, ◌∷◌, [], OnOk, OnErr, ◌↔◌, IsTrue};
 
 use crate::draft::Draft;
 use c_tokens::Memory;
@@ -62,14 +62,6 @@ impl Drafts {
         }
     }
 
-    pub fn two(first: Draft, second: Draft) -> Drafts
-        ensures { result ≡ first ∷ second ∷ [] }
-    {
-        Drafts {
-            few: Few::Two([first, second]),
-        }
-    }
-
     pub fn as_slice(&self) -> &[Draft]
         ensures { result.now ≡ self.now }
     {
@@ -79,12 +71,6 @@ impl Drafts {
             Few::Two(two) => two,
             Few::Many(many) => many.as_slice(),
         }
-    }
-
-    pub fn len(&self) -> usize
-        ensures { result ≡ length self.now }
-    {
-        self.as_slice().len()
     }
 
     pub fn is_empty(&self) -> bool

@@ -58,6 +58,7 @@ impl<
     F: Copy + Fn(Global, &mut Cursor<'_>, usize, u8, Sort, u8) -> Result<Found, Refusal>,
 > Expressions<F> {
     /// An expression that holds together at least as tightly as a level.
+    #[inline(never)]
     #[tactic(auto, unfolding(c_syntax::specs::Grammar::expression))]
     pub fn expression(&self, cursor: &mut Cursor<'_>, least: u8) -> Result<Found, Refusal>
         requires depth { self.now.grammar.depth ≤ 1000 }

@@ -67,7 +67,8 @@ impl<
             own: Sort::Item,
             form,
         };
-        let parts = Listed::one(specifiers).with(self.grammar.alloc, declarator)?;
+        let mut parts = Listed::one(specifiers);
+        parts.push(self.grammar.alloc, declarator)?;
         let rest = after_first(after_first(pieces(form)));
         self.grammar.completed(cursor, owner, start, parts, rest)
     }
@@ -96,7 +97,8 @@ impl<
             own: Sort::Decl,
             form,
         };
-        let parts = Listed::one(specifiers).with(self.grammar.alloc, declarators)?;
+        let mut parts = Listed::one(specifiers);
+        parts.push(self.grammar.alloc, declarators)?;
         let rest = after_first(after_first(pieces(form)));
         let declaration = self.grammar.completed(cursor, owner, start, parts, rest)?;
         let end = cursor.place();
@@ -134,7 +136,8 @@ impl<
         let found = self
             .grammar
             .after_part(cursor, Sort::InitDeclarator, form, place, declarator)?;
-        let first = Gathered::none_at(place).with_last(self.grammar.alloc, found, cursor.place())?;
+        let mut all = Gathered::none_at(place);
+        all.push(self.grammar.alloc, found, cursor.place())?;
         let repetition = Repetition::Spliced {
             separator: Some(COMMA),
             least: 0,
@@ -144,7 +147,7 @@ impl<
             due: Sort::InitDeclarator,
             least: 0,
         };
-        let all = self.grammar.others(cursor, repetition, part, first)?;
+        self.grammar.others(cursor, repetition, part, &mut all)?;
         let declarators = all.list_from(self.grammar.alloc, place)?;
         self.declaration_of(cursor, start, specifiers, declarators)
     }
@@ -239,9 +242,10 @@ impl<
             due: Sort::Spec,
             least: 0,
         };
-        let (start, all) = self
-            .grammar
-            .gathered(cursor, Repetition::All, part, Before::Usual)?;
+        let start = cursor.place();
+        let mut all = Gathered::none_at(start);
+        self.grammar
+            .gathered(cursor, Repetition::All, part, Before::Usual, &mut all)?;
         all.list_from(self.grammar.alloc, start)
     }
 
@@ -261,6 +265,7 @@ impl<
     }
 
     /// An external declaration (6.7).
+    #[inline(never)]
     #[tactic(auto, unfolding(c_syntax::specs::Grammar::external))]
     pub fn external(&self, cursor: &mut Cursor<'_>) -> Result<Found, Refusal>
         requires depth { self.now.grammar.depth ≤ 1000 }

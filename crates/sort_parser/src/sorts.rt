@@ -126,6 +126,7 @@ impl<F: Copy + Fn(Global, &mut Cursor<'_>, usize, u8, Sort, u8) -> Result<Found,
     }
 
     /// A tree of a sort that is read as the node of one form.
+    #[inline(never)]
     #[tactic(auto, using(crate::proofs::Ways::whole_element))]
     fn whole(&self, cursor: &mut Cursor<'_>, due: Sort) -> Result<Found, Refusal>
         requires depth { self.now.grammar.depth ≤ 1000 }

@@ -116,6 +116,7 @@ impl<
     }
 
     /// A statement (6.6).
+    #[inline(never)]
     #[tactic(auto, unfolding(c_syntax::specs::Grammar::statement))]
     pub fn statement(&self, cursor: &mut Cursor<'_>) -> Result<Found, Refusal>
         requires depth { self.now.grammar.depth ≤ 1000 }
@@ -144,17 +145,16 @@ impl<
         ensures low { IfOk result (λ x. x.height ≤ self.now.grammar.depth) }
     {
         cursor.happens(Event::SoleType)?;
-        let first = Gathered::none_at(start).with_last(
-            self.grammar.alloc,
-            typedef_leaf(start, word.shape),
-            cursor.place(),
-        )?;
+        let mut all = Gathered::none_at(start);
+        let first = typedef_leaf(start, word.shape);
+        all.push(self.grammar.alloc, first, cursor.place())?;
         let part = Part {
             is_deeper: false,
             due: Sort::Spec,
             least: 0,
         };
-        let all = self.grammar.others(cursor, Repetition::All, part, first)?;
+        self.grammar
+            .others(cursor, Repetition::All, part, &mut all)?;
         let specifiers = all.list_from(self.grammar.alloc, start)?;
         self.grammar
             .after_part(cursor, Sort::Decl, Form::Decl, start, specifiers)
@@ -199,6 +199,7 @@ impl<
     }
 
     /// A declaration or a statement of a block (6.6.2).
+    #[inline(never)]
     #[tactic(auto, unfolding(c_syntax::specs::Grammar::block_item))]
     pub fn block_item(&self, cursor: &mut Cursor<'_>) -> Result<Found, Refusal>
         requires depth { self.now.grammar.depth ≤ 1000 }

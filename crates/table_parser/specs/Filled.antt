@@ -41,8 +41,8 @@ pub record Filling : Type 0 where
   pub before : Before
   pub done : Listed
 
-abbrev pub filling_of : RustFilling → Filling
-filling_of g = record { is_skipped = g.is_skipped; before = before_of g.before; done = g.done }
+abbrev pub filling_of : RustFilling → Listed → Filling
+filling_of g done = record { is_skipped = g.is_skipped; before = before_of g.before; done = done }
 
 abbrev pub going : Before → Listed → Filling
 going before done = record { is_skipped = false; before = before; done = done }
@@ -75,7 +75,7 @@ filled part own f (p ∷ ps) g = with_piece part own f p g >>= λ h. filled part
 unfoldable pub parts_after : ℕ → Parts → Sort → Form → List Piece → Filling → Input → Outcome Listed
 parts_after d part own f ps g i = read d (filled part own f ps g) i
 
--- what a function that reads one piece ensures
-abbrev pub ReadsAs : Outcome Filling → Result RustFilling Refusal → Input → Type 0
-ReadsAs outcome (Ok g) new = outcome ≡ Ok (filling_of g, new)
-ReadsAs outcome (Err e) new = e ≢ Memory → outcome ≡ Err e
+-- what a function ensures that reads one piece and puts its parts after those of its caller
+abbrev pub ReadsAs : Outcome Filling → Result RustFilling Refusal → Listed → Input → Type 0
+ReadsAs outcome (Ok g) done new = outcome ≡ Ok (filling_of g done, new)
+ReadsAs outcome (Err e) done new = e ≢ Memory → outcome ≡ Err e

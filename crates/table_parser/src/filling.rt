@@ -1,10 +1,10 @@
 //! The parts of a row while they are read.
 
-ghost use Rattle.std.specs.Prelude.{◌≡◌};
+ghost use Rattle.std.specs.Prelude.{◌≡◌, false};
 ghost use Rattle.c_syntax.specs.Reading as reading;
-ghost use Rattle.table_parser.specs.Filled.{before_after, before_of, filling_of, going, skips};
+ghost use Rattle.table_parser.specs.Filled.{before_after, before_of, skips};
 
-use crate::found::{Gathered, Listed};
+use crate::found::Gathered;
 use c_forms::{Repetition, Sort};
 
 /// What stood before a piece: an optional part that is absent, one that is there, or something else.
@@ -15,22 +15,20 @@ pub enum Before {
     Taken,
 }
 
-/// The parts so far, what stood before the next piece, and whether that is skipped.
-#[derive(Drop)]
+/// What stood before the next piece, and whether that is skipped.
+#[derive(Clone, Copy)]
 pub struct Filling {
     pub before: Before,
     pub is_skipped: bool,
-    pub done: Listed,
 }
 
 impl Filling {
-    pub fn going(before: Before, done: Listed) -> Filling
-        ensures { filling_of result ≡ going (before_of before) done }
+    pub fn going(before: Before) -> Filling
+        ensures { result ≡ record { before = before; is_skipped = false } }
     {
         Filling {
             before,
             is_skipped: false,
-            done,
         }
     }
 }

@@ -1,6 +1,6 @@
 //! What is read: drafts of trees, and how high they are as they are spelled.
 
-ghost use Rattle.std.specs.Prelude.{◌≡◌, ◌≢◌, ◌<◌, ◌≤◌, ◌^◌, ◌+◌, ◌-◌, ◌∷◌, [], max, IfOk, IfErr, true, false};
+ghost use Rattle.std.specs.Prelude.{◌≡◌, ◌≢◌, ◌<◌, ◌≤◌, ◌^◌, ◌+◌, ◌-◌, ◌∷◌, [], max, IfOk, IfErr, OnOk, true, false};
 ghost use Rattle.c_reader.specs.declared.refusal.Refusal.TheVariants as refusal;
 ghost use Rattle.c_syntax.specs.Grammar as grammar;
 ghost use Rattle.c_syntax.specs.Reading as reading;
@@ -142,16 +142,15 @@ impl Listed {
     }
 
     /// And one more after them.
-    pub fn with(self, alloc: Global, found: Found) -> Result<Listed, Refusal>
-        ensures with { IfOk result (λ all. all ≡ reading.joined self (reading.one found)) }
+    pub fn push(&mut self, alloc: Global, found: Found) -> Result<(), Refusal>
+        ensures pushed { OnOk result (self.new ≡ reading.joined self.old (reading.one found)) }
         ensures refused { IfErr result (λ e. e ≡ refusal.Memory) }
     {
-        let mut trees = self.trees;
-        match trees.push(alloc, found.tree) {
-            Ok(()) => Ok(Listed {
-                trees,
-                height: self.height.max(found.height),
-            }),
+        match self.trees.push(alloc, found.tree) {
+            Ok(()) => {
+                self.height = self.height.max(found.height);
+                Ok(())
+            }
             Err(_) => Err(Refusal::Memory),
         }
     }
@@ -204,30 +203,24 @@ impl Gathered {
     }
 
     /// The separator was read after the last element, before an end.
-    pub fn ended(self) -> Gathered
-        ensures { result ≡ reading.ended self }
+    pub fn mark_ended(&mut self)
+        ensures { self.new ≡ reading.ended self.old }
     {
-        Gathered {
-            trees: self.trees,
-            height: self.height,
-            last: self.last,
-            is_ended: true,
-        }
+        self.is_ended = true;
     }
 
     /// And one more element, before a place.
-    pub fn with_last(self, alloc: Global, found: Found, place: usize) -> Result<Gathered, Refusal>
-        ensures with { IfOk result (λ all. all ≡ reading.with_last self found place) }
+    pub fn push(&mut self, alloc: Global, found: Found, place: usize) -> Result<(), Refusal>
+        ensures pushed { OnOk result (self.new ≡ reading.with_last self.old found place) }
         ensures refused { IfErr result (λ e. e ≡ refusal.Memory) }
     {
-        let mut trees = self.trees;
-        match trees.push(alloc, found.tree) {
-            Ok(()) => Ok(Gathered {
-                trees,
-                height: self.height.max(found.height),
-                last: place,
-                is_ended: false,
-            }),
+        match self.trees.push(alloc, found.tree) {
+            Ok(()) => {
+                self.height = self.height.max(found.height);
+                self.last = place;
+                self.is_ended = false;
+                Ok(())
+            }
             Err(_) => Err(Refusal::Memory),
         }
     }

@@ -1,10 +1,11 @@
 //! Reads sorts by the table of forms.
 
-ghost use Rattle.std.specs.Prelude.{◌≡◌, ◌≤◌, ◌<◌, ◌-◌, ◌^◌, IfOk, true};
+ghost use Rattle.std.specs.Prelude.{◌≡◌, ◌≤◌, ◌<◌, ◌-◌, ◌^◌, IfOk, OnOk, true};
 ghost use Rattle.c_forms.specs.Sets.{starts};
 ghost use Rattle.c_reader.specs.Readers.{Reads, here};
 ghost use Rattle.c_syntax.specs.Reading as reading;
 ghost use Rattle.table_parser.specs.Filled.{before_of};
+ghost use Rattle.table_parser.specs.Into.{ReadsInto};
 ghost use Rattle.table_parser.specs.Nests.{Nests, read, part_of};
 ghost use Rattle.table_parser.specs.Sound.{is_sound, is_token};
 
@@ -87,19 +88,19 @@ impl<F: Fn(Global, &mut Cursor<'_>, usize, u8, Sort, u8) -> Result<Found, Refusa
         &self,
         cursor: &mut Cursor<'_>,
         part: Part,
-        all: Gathered,
-    ) -> Result<Gathered, Refusal>
+        all: &mut Gathered,
+    ) -> Result<(), Refusal>
         requires depth { self.now.depth ≤ 1000 }
         requires places { self.now.places ≤ 9 }
         requires nests { Nests self.now.depth self.now.places (F.pre self.now.part) (F.post self.now.part) }
-        requires low { all.height ≤ self.now.depth }
-        ensures reads { Reads (read self.now.depth (reading.element_after (part_of part.is_deeper self.now.places part.due part.least) all) cursor.old.input) result cursor.new.input }
+        requires low { all.old.height ≤ self.now.depth }
+        ensures reads { ReadsInto (read self.now.depth (reading.element_after (part_of part.is_deeper self.now.places part.due part.least) all.old) cursor.old.input) result all.new cursor.new.input }
         ensures kept { cursor.new.before ≡ cursor.old.before }
-        ensures low { IfOk result (λ g. g.height ≤ self.now.depth) }
-        ensures last { IfOk result (λ g. g.last < 2 ^ 32 - 1) }
+        ensures low { OnOk result (all.new.height ≤ self.now.depth) }
+        ensures last { OnOk result (all.new.last < 2 ^ 32 - 1) }
     {
         let found = self.part(cursor, part)?;
-        Ok(all.with_last(self.alloc, found, cursor.place())?)
+        all.push(self.alloc, found, cursor.place())
     }
 
     /// The elements after the first.
@@ -109,29 +110,28 @@ impl<F: Fn(Global, &mut Cursor<'_>, usize, u8, Sort, u8) -> Result<Found, Refusa
         cursor: &mut Cursor<'_>,
         repetition: Repetition,
         part: Part,
-        first: Gathered,
-    ) -> Result<Gathered, Refusal>
+        all: &mut Gathered,
+    ) -> Result<(), Refusal>
         requires depth { self.now.depth ≤ 1000 }
         requires places { self.now.places ≤ 9 }
         requires nests { Nests self.now.depth self.now.places (F.pre self.now.part) (F.post self.now.part) }
         requires sound { is_sound repetition ≡ true }
-        requires low { first.height ≤ self.now.depth }
-        requires last { first.last < 2 ^ 32 - 1 }
-        ensures reads { Reads (read self.now.depth (reading.others repetition part.due (part_of part.is_deeper self.now.places part.due part.least) first) cursor.old.input) result cursor.new.input }
+        requires low { all.old.height ≤ self.now.depth }
+        requires last { all.old.last < 2 ^ 32 - 1 }
+        ensures reads { ReadsInto (read self.now.depth (reading.others repetition part.due (part_of part.is_deeper self.now.places part.due part.least) all.old) cursor.old.input) result all.new cursor.new.input }
         ensures kept { cursor.new.before ≡ cursor.old.before }
-        ensures low { IfOk result (λ g. g.height ≤ self.now.depth) }
-        ensures last { IfOk result (λ g. g.last < 2 ^ 32 - 1) }
+        ensures low { OnOk result (all.new.height ≤ self.now.depth) }
+        ensures last { OnOk result (all.new.last < 2 ^ 32 - 1) }
     {
-        let mut all = first;
         let mut turns = self.depth + cursor.len();
         'elements: while goes_on_with(repetition, part.due, cursor.look().class) {
-            all = self.one_more(cursor, repetition, part, all)?;
+            self.one_more(cursor, repetition, part, all)?;
             if turns == 0 {
                 return Err(Refusal::TooDeep(cursor.place()));
             }
             turns -= 1;
         }
-        Ok(all)
+        Ok(())
     }
 
     /// One more element of a list that goes on.
@@ -141,18 +141,18 @@ impl<F: Fn(Global, &mut Cursor<'_>, usize, u8, Sort, u8) -> Result<Found, Refusa
         cursor: &mut Cursor<'_>,
         repetition: Repetition,
         part: Part,
-        all: Gathered,
-    ) -> Result<Gathered, Refusal>
+        all: &mut Gathered,
+    ) -> Result<(), Refusal>
         requires depth { self.now.depth ≤ 1000 }
         requires places { self.now.places ≤ 9 }
         requires nests { Nests self.now.depth self.now.places (F.pre self.now.part) (F.post self.now.part) }
         requires sound { is_sound repetition ≡ true }
-        requires goes { reading.goes repetition part.due all (here cursor.old.input) ≡ true }
-        requires low { all.height ≤ self.now.depth }
-        ensures reads { Reads (read self.now.depth (reading.separated (reading.separator_of repetition) (reading.element_after (part_of part.is_deeper self.now.places part.due part.least) all)) cursor.old.input) result cursor.new.input }
+        requires goes { reading.goes repetition part.due all.old (here cursor.old.input) ≡ true }
+        requires low { all.old.height ≤ self.now.depth }
+        ensures reads { ReadsInto (read self.now.depth (reading.separated (reading.separator_of repetition) (reading.element_after (part_of part.is_deeper self.now.places part.due part.least) all.old)) cursor.old.input) result all.new cursor.new.input }
         ensures kept { cursor.new.before ≡ cursor.old.before }
-        ensures low { IfOk result (λ g. g.height ≤ self.now.depth) }
-        ensures last { IfOk result (λ g. g.last < 2 ^ 32 - 1) }
+        ensures low { OnOk result (all.new.height ≤ self.now.depth) }
+        ensures last { OnOk result (all.new.last < 2 ^ 32 - 1) }
     {
         if separator_of(repetition).is_some() {
             cursor.advance();
@@ -168,33 +168,33 @@ impl<F: Fn(Global, &mut Cursor<'_>, usize, u8, Sort, u8) -> Result<Found, Refusa
         separator: Class,
         end: Class,
         part: Part,
-        first: Gathered,
-    ) -> Result<Gathered, Refusal>
+        all: &mut Gathered,
+    ) -> Result<(), Refusal>
         requires depth { self.now.depth ≤ 1000 }
         requires places { self.now.places ≤ 9 }
         requires nests { Nests self.now.depth self.now.places (F.pre self.now.part) (F.post self.now.part) }
         requires sound { is_token separator ≡ true }
-        requires low { first.height ≤ self.now.depth }
-        requires last { first.last < 2 ^ 32 - 1 }
-        ensures reads { Reads (read self.now.depth (reading.others_ended separator end (part_of part.is_deeper self.now.places part.due part.least) first) cursor.old.input) result cursor.new.input }
+        requires low { all.old.height ≤ self.now.depth }
+        requires last { all.old.last < 2 ^ 32 - 1 }
+        ensures reads { ReadsInto (read self.now.depth (reading.others_ended separator end (part_of part.is_deeper self.now.places part.due part.least) all.old) cursor.old.input) result all.new cursor.new.input }
         ensures kept { cursor.new.before ≡ cursor.old.before }
-        ensures low { IfOk result (λ g. g.height ≤ self.now.depth) }
-        ensures last { IfOk result (λ g. g.last < 2 ^ 32 - 1) }
+        ensures low { OnOk result (all.new.height ≤ self.now.depth) }
+        ensures last { OnOk result (all.new.last < 2 ^ 32 - 1) }
     {
-        let mut all = first;
         let mut turns = self.depth + cursor.len();
         'elements: while cursor.shows(separator) {
             cursor.advance();
             if cursor.shows(end) {
-                return Ok(all.ended());
+                all.mark_ended();
+                return Ok(());
             }
-            all = self.element_after(cursor, part, all)?;
+            self.element_after(cursor, part, all)?;
             if turns == 0 {
                 return Err(Refusal::TooDeep(cursor.place()));
             }
             turns -= 1;
         }
-        Ok(all)
+        Ok(())
     }
 
     /// One or more elements from a place on.
@@ -205,23 +205,25 @@ impl<F: Fn(Global, &mut Cursor<'_>, usize, u8, Sort, u8) -> Result<Found, Refusa
         repetition: Repetition,
         part: Part,
         start: usize,
-    ) -> Result<Gathered, Refusal>
+        all: &mut Gathered,
+    ) -> Result<(), Refusal>
         requires depth { self.now.depth ≤ 1000 }
         requires places { self.now.places ≤ 9 }
         requires nests { Nests self.now.depth self.now.places (F.pre self.now.part) (F.post self.now.part) }
         requires sound { is_sound repetition ≡ true }
         requires start { start < 2 ^ 32 - 1 }
-        ensures reads { Reads (read self.now.depth (reading.many repetition part.due (part_of part.is_deeper self.now.places part.due part.least) start) cursor.old.input) result cursor.new.input }
+        requires none { all.old ≡ reading.none_at start }
+        ensures reads { ReadsInto (read self.now.depth (reading.many repetition part.due (part_of part.is_deeper self.now.places part.due part.least) start) cursor.old.input) result all.new cursor.new.input }
         ensures kept { cursor.new.before ≡ cursor.old.before }
-        ensures low { IfOk result (λ g. g.height ≤ self.now.depth) }
-        ensures last { IfOk result (λ g. g.last < 2 ^ 32 - 1) }
+        ensures low { OnOk result (all.new.height ≤ self.now.depth) }
+        ensures last { OnOk result (all.new.last < 2 ^ 32 - 1) }
     {
-        let first = self.element_after(cursor, part, Gathered::none_at(start))?;
+        self.element_after(cursor, part, all)?;
         match repetition {
             Repetition::Ended { separator, end } => self.others_ended(
-                cursor, separator, end, part, first,
+                cursor, separator, end, part, all,
             ),
-            _ => self.others(cursor, repetition, part, first),
+            _ => self.others(cursor, repetition, part, all),
         }
     }
 
@@ -231,20 +233,22 @@ impl<F: Fn(Global, &mut Cursor<'_>, usize, u8, Sort, u8) -> Result<Found, Refusa
         cursor: &mut Cursor<'_>,
         part: Part,
         start: usize,
-    ) -> Result<Gathered, Refusal>
+        all: &mut Gathered,
+    ) -> Result<(), Refusal>
         requires depth { self.now.depth ≤ 1000 }
         requires places { self.now.places ≤ 9 }
         requires nests { Nests self.now.depth self.now.places (F.pre self.now.part) (F.post self.now.part) }
         requires start { start < 2 ^ 32 - 1 }
-        ensures reads { Reads (read self.now.depth (reading.at_most_one (part_of part.is_deeper self.now.places part.due part.least) (starts part.due) start) cursor.old.input) result cursor.new.input }
+        requires none { all.old ≡ reading.none_at start }
+        ensures reads { ReadsInto (read self.now.depth (reading.at_most_one (part_of part.is_deeper self.now.places part.due part.least) (starts part.due) start) cursor.old.input) result all.new cursor.new.input }
         ensures kept { cursor.new.before ≡ cursor.old.before }
-        ensures low { IfOk result (λ g. g.height ≤ self.now.depth) }
-        ensures last { IfOk result (λ g. g.last < 2 ^ 32 - 1) }
+        ensures low { OnOk result (all.new.height ≤ self.now.depth) }
+        ensures last { OnOk result (all.new.last < 2 ^ 32 - 1) }
     {
         if may_begin(part.due, cursor.look().class) {
-            self.element_after(cursor, part, Gathered::none_at(start))
+            self.element_after(cursor, part, all)
         } else {
-            Ok(Gathered::none_at(start))
+            Ok(())
         }
     }
 
@@ -256,23 +260,25 @@ impl<F: Fn(Global, &mut Cursor<'_>, usize, u8, Sort, u8) -> Result<Found, Refusa
         repetition: Repetition,
         part: Part,
         start: usize,
-    ) -> Result<Gathered, Refusal>
+        all: &mut Gathered,
+    ) -> Result<(), Refusal>
         requires depth { self.now.depth ≤ 1000 }
         requires places { self.now.places ≤ 9 }
         requires nests { Nests self.now.depth self.now.places (F.pre self.now.part) (F.post self.now.part) }
         requires sound { is_sound repetition ≡ true }
         requires start { start < 2 ^ 32 - 1 }
-        ensures reads { Reads (read self.now.depth (reading.any_number is_some repetition part.due (part_of part.is_deeper self.now.places part.due part.least) start) cursor.old.input) result cursor.new.input }
+        requires none { all.old ≡ reading.none_at start }
+        ensures reads { ReadsInto (read self.now.depth (reading.any_number is_some repetition part.due (part_of part.is_deeper self.now.places part.due part.least) start) cursor.old.input) result all.new cursor.new.input }
         ensures kept { cursor.new.before ≡ cursor.old.before }
-        ensures low { IfOk result (λ g. g.height ≤ self.now.depth) }
-        ensures last { IfOk result (λ g. g.last < 2 ^ 32 - 1) }
+        ensures low { OnOk result (all.new.height ≤ self.now.depth) }
+        ensures last { OnOk result (all.new.last < 2 ^ 32 - 1) }
     {
         if is_some {
-            self.many(cursor, repetition, part, start)
+            self.many(cursor, repetition, part, start, all)
         } else if may_begin_element(repetition, part.due, cursor.look().class) {
-            self.many(cursor, repetition, part, start)
+            self.many(cursor, repetition, part, start, all)
         } else {
-            Ok(Gathered::none_at(start))
+            Ok(())
         }
     }
 
@@ -283,31 +289,34 @@ impl<F: Fn(Global, &mut Cursor<'_>, usize, u8, Sort, u8) -> Result<Found, Refusa
         part: Part,
         before: Before,
         start: usize,
-    ) -> Result<Gathered, Refusal>
+        all: &mut Gathered,
+    ) -> Result<(), Refusal>
         requires depth { self.now.depth ≤ 1000 }
         requires places { self.now.places ≤ 9 }
         requires nests { Nests self.now.depth self.now.places (F.pre self.now.part) (F.post self.now.part) }
         requires sound { is_sound repetition ≡ true }
         requires start { start < 2 ^ 32 - 1 }
-        ensures reads { Reads (read self.now.depth (reading.gathered_by repetition part.due (part_of part.is_deeper self.now.places part.due part.least) (before_of before) start) cursor.old.input) result cursor.new.input }
+        requires none { all.old ≡ reading.none_at start }
+        ensures reads { ReadsInto (read self.now.depth (reading.gathered_by repetition part.due (part_of part.is_deeper self.now.places part.due part.least) (before_of before) start) cursor.old.input) result all.new cursor.new.input }
         ensures kept { cursor.new.before ≡ cursor.old.before }
-        ensures low { IfOk result (λ g. g.height ≤ self.now.depth) }
-        ensures last { IfOk result (λ g. g.last < 2 ^ 32 - 1) }
+        ensures low { OnOk result (all.new.height ≤ self.now.depth) }
+        ensures last { OnOk result (all.new.last < 2 ^ 32 - 1) }
     {
         match repetition {
-            Repetition::Optional | Repetition::Greedy => self.at_most_one(cursor, part, start),
+            Repetition::Optional | Repetition::Greedy => self.at_most_one(cursor, part, start, all),
             Repetition::Due => match before {
-                Before::Missing => self.element_after(cursor, part, Gathered::none_at(start)),
-                Before::Usual | Before::Taken => self.at_most_one(cursor, part, start),
+                Before::Missing => self.element_after(cursor, part, all),
+                Before::Usual | Before::Taken => self.at_most_one(cursor, part, start, all),
             },
-            Repetition::All => self.many(cursor, repetition, part, start),
-            Repetition::Any => self.any_number(cursor, false, repetition, part, start),
+            Repetition::All => self.many(cursor, repetition, part, start, all),
+            Repetition::Any => self.any_number(cursor, false, repetition, part, start, all),
             Repetition::Many { least, .. } => self.any_number(
                 cursor,
                 least == 1,
                 repetition,
                 part,
                 start,
+                all,
             ),
             Repetition::Spliced { least, .. } => self.any_number(
                 cursor,
@@ -315,12 +324,13 @@ impl<F: Fn(Global, &mut Cursor<'_>, usize, u8, Sort, u8) -> Result<Found, Refusa
                 repetition,
                 part,
                 start,
+                all,
             ),
-            Repetition::Ended { .. } => self.many(cursor, repetition, part, start),
+            Repetition::Ended { .. } => self.many(cursor, repetition, part, start, all),
         }
     }
 
-    /// The elements of a repetition, and the place where they begin.
+    /// The elements of a repetition, after none.
     #[tactic(auto, unfolding(c_syntax::specs::Reading::gathered))]
     pub fn gathered(
         &self,
@@ -328,20 +338,20 @@ impl<F: Fn(Global, &mut Cursor<'_>, usize, u8, Sort, u8) -> Result<Found, Refusa
         repetition: Repetition,
         part: Part,
         before: Before,
-    ) -> Result<(usize, Gathered), Refusal>
+        all: &mut Gathered,
+    ) -> Result<(), Refusal>
         requires depth { self.now.depth ≤ 1000 }
         requires places { self.now.places ≤ 9 }
         requires nests { Nests self.now.depth self.now.places (F.pre self.now.part) (F.post self.now.part) }
         requires sound { is_sound repetition ≡ true }
-        ensures reads { Reads (read self.now.depth (reading.gathered repetition part.due (part_of part.is_deeper self.now.places part.due part.least) (before_of before)) cursor.old.input) result cursor.new.input }
-        ensures start { IfOk result (λ g. g.0 < 2 ^ 32 - 1) }
+        requires none { all.old ≡ reading.none_at cursor.old.input.at.place }
+        ensures reads { ReadsInto (read self.now.depth (reading.gathered repetition part.due (part_of part.is_deeper self.now.places part.due part.least) (before_of before)) cursor.old.input) result (cursor.old.input.at.place, all.new) cursor.new.input }
         ensures kept { cursor.new.before ≡ cursor.old.before }
-        ensures low { IfOk result (λ g. g.1.height ≤ self.now.depth) }
-        ensures last { IfOk result (λ g. g.1.last < 2 ^ 32 - 1) }
+        ensures low { OnOk result (all.new.height ≤ self.now.depth) }
+        ensures last { OnOk result (all.new.last < 2 ^ 32 - 1) }
     {
         let start = cursor.place();
-        let all = self.gathered_from(cursor, repetition, part, before, start)?;
-        Ok((start, all))
+        self.gathered_from(cursor, repetition, part, before, start, all)
     }
 }
 

@@ -6,13 +6,14 @@ ghost use Rattle.c_reader.specs.declared.refusal.Refusal.TheVariants as refusal;
 ghost use Rattle.c_syntax.specs.Grammar as grammar;
 ghost use Rattle.c_syntax.specs.Reading as reading;
 ghost use Rattle.table_parser.specs.Filled.{ReadsAs, before_of, by_piece, filled, filling_of, going, with_piece};
+ghost use Rattle.table_parser.specs.Into.{ReadsInto};
 ghost use Rattle.table_parser.specs.Nests.{Nests, read, part_of, deeper_by};
 ghost use Rattle.table_parser.specs.Sound.{are_sound, is_element, is_sound, piece_sound};
 ghost use Rattle.c_forms.specs.declared.pieces.Piece.TheVariants as piece;
 
 use crate::cursor::Cursor;
 use crate::filling::{Before, Filling, before_after, before_by, inside, skips};
-use crate::found::{Found, Listed, node};
+use crate::found::{Found, Gathered, Listed, node};
 use crate::grammar::{Grammar, Owner, Part};
 use c_forms::{Form, InitForm, Piece, Repetition, Sort, StmtForm};
 use c_reader::Refusal;
@@ -50,15 +51,15 @@ impl<F: Fn(Global, &mut Cursor<'_>, usize, u8, Sort, u8) -> Result<Found, Refusa
         owner: Owner,
         due: Sort,
         least: u8,
-        done: Listed,
+        done: &mut Listed,
     ) -> Result<Filling, Refusal>
         requires depth { self.now.depth ≤ 1000 }
         requires places { self.now.places ≤ 9 }
         requires nests { Nests self.now.depth self.now.places (F.pre self.now.part) (F.post self.now.part) }
-        requires low { done.height ≤ self.now.depth }
-        ensures reads { ReadsAs (read self.now.depth (by_piece (part_of owner.is_deeper self.now.places) owner.own owner.form (piece.One due least) reading.Usual done) cursor.old.input) result cursor.new.input }
+        requires low { done.old.height ≤ self.now.depth }
+        ensures reads { ReadsAs (read self.now.depth (by_piece (part_of owner.is_deeper self.now.places) owner.own owner.form (piece.One due least) reading.Usual done.old) cursor.old.input) result done.new cursor.new.input }
         ensures kept { cursor.new.before ≡ cursor.old.before }
-        ensures low { IfOk result (λ g. g.done.height ≤ self.now.depth) }
+        ensures low { OnOk result (done.new.height ≤ self.now.depth) }
     {
         let part = Part {
             is_deeper: owner.is_deeper,
@@ -67,8 +68,8 @@ impl<F: Fn(Global, &mut Cursor<'_>, usize, u8, Sort, u8) -> Result<Found, Refusa
         };
         let found = self.part(cursor, part)?;
         let before = before_by(found.is_absent());
-        let done = done.with(self.alloc, found)?;
-        Ok(Filling::going(before, done))
+        done.push(self.alloc, found)?;
+        Ok(Filling::going(before))
     }
 
     /// The list of a repetition after the parts that were read.
@@ -79,28 +80,26 @@ impl<F: Fn(Global, &mut Cursor<'_>, usize, u8, Sort, u8) -> Result<Found, Refusa
         repetition: Repetition,
         part: Part,
         before: Before,
-        done: Listed,
+        done: &mut Listed,
     ) -> Result<Filling, Refusal>
         requires depth { self.now.depth ≤ 1000 }
         requires places { self.now.places ≤ 9 }
         requires nests { Nests self.now.depth self.now.places (F.pre self.now.part) (F.post self.now.part) }
         requires sound { is_sound repetition ≡ true }
         requires deeper { part.is_deeper ≡ owner.is_deeper }
-        requires low { done.height ≤ self.now.depth }
-        ensures reads { ReadsAs (read self.now.depth (by_piece (part_of owner.is_deeper self.now.places) owner.own owner.form (piece.Group repetition part.due part.least) (before_of before) done) cursor.old.input) result cursor.new.input }
+        requires low { done.old.height ≤ self.now.depth }
+        ensures reads { ReadsAs (read self.now.depth (by_piece (part_of owner.is_deeper self.now.places) owner.own owner.form (piece.Group repetition part.due part.least) (before_of before) done.old) cursor.old.input) result done.new cursor.new.input }
         ensures kept { cursor.new.before ≡ cursor.old.before }
-        ensures low { IfOk result (λ g. g.done.height ≤ self.now.depth) }
+        ensures low { OnOk result (done.new.height ≤ self.now.depth) }
     {
-        let (start, all) = self.gathered(cursor, repetition, part, before)?;
+        let start = cursor.place();
+        let mut all = Gathered::none_at(start);
+        self.gathered(cursor, repetition, part, before, &mut all)?;
         let is_skipped = skips(repetition, all.is_ended());
         let before = before_after(repetition, &all);
         let list = all.list_from(self.alloc, start)?;
-        let done = done.with(self.alloc, list)?;
-        Ok(Filling {
-            before,
-            is_skipped,
-            done,
-        })
+        done.push(self.alloc, list)?;
+        Ok(Filling { before, is_skipped })
     }
 
     /// The parts with those of one more piece.
@@ -111,38 +110,34 @@ impl<F: Fn(Global, &mut Cursor<'_>, usize, u8, Sort, u8) -> Result<Found, Refusa
         owner: Owner,
         piece: Piece,
         filling: Filling,
+        done: &mut Listed,
     ) -> Result<Filling, Refusal>
         requires depth { self.now.depth ≤ 1000 }
         requires places { self.now.places ≤ 9 }
         requires nests { Nests self.now.depth self.now.places (F.pre self.now.part) (F.post self.now.part) }
         requires sound { piece_sound owner.form piece ≡ true }
-        requires low { filling.done.height ≤ self.now.depth }
-        ensures reads { ReadsAs (read self.now.depth (with_piece (part_of owner.is_deeper self.now.places) owner.own owner.form piece (filling_of filling)) cursor.old.input) result cursor.new.input }
+        requires low { done.old.height ≤ self.now.depth }
+        ensures reads { ReadsAs (read self.now.depth (with_piece (part_of owner.is_deeper self.now.places) owner.own owner.form piece (filling_of filling done.old)) cursor.old.input) result done.new cursor.new.input }
         ensures kept { cursor.new.before ≡ cursor.old.before }
-        ensures low { IfOk result (λ g. g.done.height ≤ self.now.depth) }
+        ensures low { OnOk result (done.new.height ≤ self.now.depth) }
     {
-        let Filling {
-            before,
-            is_skipped,
-            done,
-        } = filling;
-        if is_skipped {
-            return Ok(Filling::going(Before::Usual, done));
+        if filling.is_skipped {
+            return Ok(Filling::going(Before::Usual));
         }
         match piece {
             Piece::Token(class) => {
                 cursor.take(class)?;
-                Ok(Filling::going(Before::Usual, done))
+                Ok(Filling::going(Before::Usual))
             }
             Piece::Maybe(class) => {
                 if cursor.shows(class) {
                     cursor.advance();
                 }
-                Ok(Filling::going(Before::Usual, done))
+                Ok(Filling::going(Before::Usual))
             }
             Piece::Own => {
                 cursor.take_held(owner.form)?;
-                Ok(Filling::going(Before::Usual, done))
+                Ok(Filling::going(Before::Usual))
             }
             Piece::One(due, least) => self.with_part(cursor, owner, due, least, done),
             Piece::Group(repetition, due, least) => {
@@ -151,14 +146,14 @@ impl<F: Fn(Global, &mut Cursor<'_>, usize, u8, Sort, u8) -> Result<Found, Refusa
                     due,
                     least,
                 };
-                self.with_group(cursor, owner, repetition, part, before, done)
+                self.with_group(cursor, owner, repetition, part, filling.before, done)
             }
             Piece::Then(event) => {
                 if !cursor.attempt().may_happen(event) {
                     return Err(cursor.refuse());
                 }
                 cursor.happens(event)?;
-                Ok(Filling::going(before, done))
+                Ok(Filling::going(filling.before))
             }
             Piece::TypeTokens | Piece::KindName | Piece::Rest(_) | Piece::Anything => Err(
                 cursor.refuse(),
@@ -172,22 +167,22 @@ impl<F: Fn(Global, &mut Cursor<'_>, usize, u8, Sort, u8) -> Result<Found, Refusa
         cursor: &mut Cursor<'_>,
         owner: Owner,
         pieces: &[Piece],
-        done: Listed,
-    ) -> Result<Listed, Refusal>
+        done: &mut Listed,
+    ) -> Result<(), Refusal>
         requires depth { self.now.depth ≤ 1000 }
         requires places { self.now.places ≤ 9 }
         requires nests { Nests self.now.depth self.now.places (F.pre self.now.part) (F.post self.now.part) }
         requires sound { are_sound owner.form pieces.now ≡ true }
-        requires low { done.height ≤ self.now.depth }
-        ensures reads { Reads (read self.now.depth (filled (part_of owner.is_deeper self.now.places) owner.own owner.form pieces.now (going reading.Usual done)) cursor.old.input) result cursor.new.input }
+        requires low { done.old.height ≤ self.now.depth }
+        ensures reads { ReadsInto (read self.now.depth (filled (part_of owner.is_deeper self.now.places) owner.own owner.form pieces.now (going reading.Usual done.old)) cursor.old.input) result done.new cursor.new.input }
         ensures kept { cursor.new.before ≡ cursor.old.before }
-        ensures low { IfOk result (λ g. g.height ≤ self.now.depth) }
+        ensures low { OnOk result (done.new.height ≤ self.now.depth) }
     {
-        let mut filling = Filling::going(Before::Usual, done);
+        let mut filling = Filling::going(Before::Usual);
         'pieces: for piece in pieces {
-            filling = self.with_piece(cursor, owner, *piece, filling)?;
+            filling = self.with_piece(cursor, owner, *piece, filling, done)?;
         }
-        Ok(filling.done)
+        Ok(())
     }
 
     /// A node from a place on, of these parts and those of the pieces that are left.
@@ -211,7 +206,8 @@ impl<F: Fn(Global, &mut Cursor<'_>, usize, u8, Sort, u8) -> Result<Found, Refusa
         ensures kept { cursor.new.before ≡ cursor.old.before }
         ensures low { IfOk result (λ x. x.height ≤ self.now.depth) }
     {
-        let parts = self.filled(cursor, owner, pieces, done)?;
+        let mut parts = done;
+        self.filled(cursor, owner, pieces, &mut parts)?;
         let end = cursor.place();
         Ok(node(self.alloc, owner.form, start, end, parts)?)
     }
@@ -229,6 +225,7 @@ impl<F: Fn(Global, &mut Cursor<'_>, usize, u8, Sort, u8) -> Result<Found, Refusa
     }
 
     /// A node of a form that is read as a sort.
+    #[inline(never)]
     #[tactic(auto, using(crate::proofs::Sounds::row_sound), unfolding(c_syntax::specs::Grammar::whole))]
     pub fn whole(&self, cursor: &mut Cursor<'_>, own: Sort, form: Form) -> Result<Found, Refusal>
         requires depth { self.now.depth ≤ 1000 }

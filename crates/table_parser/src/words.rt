@@ -35,6 +35,7 @@ pub fn is_word(token: Seen) -> bool
 }
 
 /// Any word.
+#[inline(never)]
 pub fn identifier(cursor: &mut Cursor<'_>) -> Result<Found, Refusal>
     ensures reads { Reads (read 0 grammar.identifier cursor.old.input) result cursor.new.input }
     ensures kept { cursor.new.before ≡ cursor.old.before }
@@ -55,6 +56,7 @@ pub fn identifier(cursor: &mut Cursor<'_>) -> Result<Found, Refusal>
 }
 
 /// The name of a declarator, which is no type where no type specifier stands (ISO/IEC 9899:1990, 6.5.4).
+#[inline(never)]
 pub fn declared_identifier(cursor: &mut Cursor<'_>) -> Result<Found, Refusal>
     ensures reads { Reads (read 0 grammar.declared_identifier cursor.old.input) result cursor.new.input }
     ensures kept { cursor.new.before ≡ cursor.old.before }
@@ -75,6 +77,7 @@ pub fn declared_identifier(cursor: &mut Cursor<'_>) -> Result<Found, Refusal>
 }
 
 /// A parameter of an identifier list, which is declared at once (6.5.4.3).
+#[inline(never)]
 pub fn parameter_identifier(cursor: &mut Cursor<'_>) -> Result<Found, Refusal>
     ensures reads { Reads (read 0 grammar.parameter_identifier cursor.old.input) result cursor.new.input }
     ensures kept { cursor.new.before ≡ cursor.old.before }
@@ -86,6 +89,7 @@ pub fn parameter_identifier(cursor: &mut Cursor<'_>) -> Result<Found, Refusal>
 }
 
 /// An enumerator's name, which hides what its word was (6.5.2.2).
+#[inline(never)]
 pub fn enumerator_identifier(cursor: &mut Cursor<'_>) -> Result<Found, Refusal>
     ensures reads { Reads (read 0 grammar.enumerator_identifier cursor.old.input) result cursor.new.input }
     ensures kept { cursor.new.before ≡ cursor.old.before }
@@ -106,6 +110,7 @@ pub fn enumerator_identifier(cursor: &mut Cursor<'_>) -> Result<Found, Refusal>
 }
 
 /// A string literal that stands beside others (6.1.4).
+#[inline(never)]
 pub fn literal(cursor: &mut Cursor<'_>) -> Result<Found, Refusal>
     ensures reads { Reads (read 0 grammar.literal cursor.old.input) result cursor.new.input }
     ensures kept { cursor.new.before ≡ cursor.old.before }

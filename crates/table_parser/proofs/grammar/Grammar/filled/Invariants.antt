@@ -8,7 +8,7 @@ use Rattle.table_parser.proofs.grammar.Grammar.filled.Given as goal
 abbrev pub invariant-pieces : goal.invariant-pieces
 invariant-pieces g l = record {
   rest : read l.self.depth (filled (part_of l.owner.is_deeper l.self.places) l.owner.own l.owner.form l.pieces (going reading.Usual l.fn.done)) l.fn.cursor.input
-      ≡ parts_after l.self.depth (part_of l.owner.is_deeper l.self.places) l.owner.own l.owner.form (drop l.piece-index l.pieces) (filling_of l.filling) l.cursor.input;
+      ≡ parts_after l.self.depth (part_of l.owner.is_deeper l.self.places) l.owner.own l.owner.form (drop l.piece-index l.pieces) (filling_of l.filling l.done) l.cursor.input;
   kept : l.cursor.before ≡ l.fn.cursor.before;
-  low : l.filling.done.height ≤ l.self.depth;
+  low : l.done.height ≤ l.self.depth;
 }

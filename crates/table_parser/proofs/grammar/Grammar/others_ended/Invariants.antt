@@ -7,7 +7,7 @@ use Rattle.table_parser.proofs.grammar.Grammar.others_ended.Given as goal
 -- what is left of the list answers what the whole does
 abbrev pub invariant-elements : goal.invariant-elements
 invariant-elements g l = record {
-  rest : read l.self.depth (reading.others_ended l.separator l.end (part_of l.part.is_deeper l.self.places l.part.due l.part.least) l.fn.first) l.fn.cursor.input
+  rest : read l.self.depth (reading.others_ended l.separator l.end (part_of l.part.is_deeper l.self.places l.part.due l.part.least) l.fn.all) l.fn.cursor.input
       ≡ ended_from l.self.depth l.separator l.end (part_of l.part.is_deeper l.self.places l.part.due l.part.least) l.turns l.all l.cursor.input;
   kept : l.cursor.before ≡ l.fn.cursor.before;
   low : l.all.height ≤ l.self.depth;
