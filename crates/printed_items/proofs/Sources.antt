@@ -19,7 +19,7 @@ one_longer : (front : List Shape) (x : Shape) → length (front ++ x ∷ []) ≡
 one_longer [] x = refl
 one_longer (y ∷ front) x = ap suc (one_longer front x)
 
-longer : (front : List Shape) (x : Shape) → length (front ++ x ∷ []) ≡ length front + 1
+pub longer : (front : List Shape) (x : Shape) → length (front ++ x ∷ []) ≡ length front + 1
 longer front x = let h = one_longer front x in omega (arith, h)
 
 none_more : (n : ℕ) → n ≡ n + 0
