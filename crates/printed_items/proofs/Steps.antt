@@ -1,17 +1,22 @@
 -- What is spelled as an item has a token.
 use Rattle.std.proofs.Common.{◌≡◌, ◌⊎◌, inl, inr, refl, ap, sym, subst, ◌∙◌, ℕ, zero, suc, ◌<◌, ◌≤◌, Bool, true, false, List, [], ◌∷◌, arith}
 use Rattle.c_tokens.specs.declared.token.Shape.{Shape}
+use Rattle.c_tokens.specs.declared.token.Shape.TheVariants as shape
 use Rattle.c_forms.specs.declared.pieces.Sort.TheVariants as s
 use Rattle.c_forms.specs.declared.forms.Form.{Form}
 use Rattle.c_forms.specs.declared.forms.Form.TheVariants as form
 use Rattle.c_forms.specs.declared.forms.ItemForm.TheVariants as item
 use Rattle.c_forms.specs.Forests.{Plain}
 use Rattle.c_forms.specs.Measures.{pieces}
-use Rattle.c_reader.specs.Tokens.{Spot}
+use Rattle.c_forms.specs.Sets.{has}
+use Rattle.c_tokens.specs.ClassNumbers.{class_number}
+use Rattle.c_tokens.specs.ClassOf.{class_of}
+use Rattle.c_reader.specs.States.{class}
+use Rattle.c_reader.specs.Tokens.{Spot, raw_at}
 use Rattle.c_syntax.specs.Allowed.{places}
 use Rattle.c_syntax.specs.Reading.{Usual, is_starred}
 use Rattle.c_syntax.specs.Spells.{Spelling, IsNode, InPlace, Spells, nothing_spelled, parts_spelled, started_by, has_no_specifiers}
-use Rattle.c_spelled.specs.Fitting.{reads, blank}
+use Rattle.c_spelled.specs.Fitting.{reads, blank, opens}
 use Rattle.c_spelled.proofs.Alone.{item_is}
 use Rattle.c_spelled.proofs.Begins.{AllBegin, choose_begin, in_place_begins, spells_begin}
 use Rattle.c_spelled.proofs.Opens.{starts_so}
@@ -27,6 +32,10 @@ item_token : (f : Form) → (f ≡ form.Item item.Function) ⊎ (f ≡ form.Item
 item_token f (inl e) = ap (λ f. blank s.Item Usual (pieces f)) e
 item_token f (inr e) = ap (λ f. blank s.Item Usual (pieces f)) e
 
+item_not_end : (f : Form) → (f ≡ form.Item item.Function) ⊎ (f ≡ form.Item item.Declaration) → has (opens s.Item f (pieces f)) (class_number (class_of shape.End)) ≡ false
+item_not_end f (inl e) = ap (λ f. has (opens s.Item f (pieces f)) (class_number (class_of shape.End))) e
+item_not_end f (inr e) = ap (λ f. has (opens s.Item f (pieces f)) (class_number (class_of shape.End))) e
+
 none_blank : {b : Bool} → b ≡ true → b ≡ false → ⊥
 none_blank e f = absurd (cc (e, f))
 
@@ -41,6 +50,13 @@ module _ (levels : Type 0) (deeper inner : Spelling) (w : List Shape) (D : AllBe
         | inr x ↦ absurd (none_blank x.may (item_token t.form o))
       ]
 
+  node_some : (least : ℕ) (t : Plain) (i j : Spot) → IsNode levels deeper inner w s.Item least t i j → raw_at w i.place ≡ shape.End → ⊥
+  node_some least t i j N e = let o = item_is t.form N.may in
+      elim (starts_so w (parts_spelled (is_starred t.form) deeper inner) (choose_begin (is_starred t.form) w deeper inner D I) s.Item t.form Usual (pieces t.form) N.parts i j (item_reads t.form o) N.matches) [
+        | inl x ↦ none_blank x.isin (ap (λ r. has (opens s.Item t.form (pieces t.form)) (class x.state r)) e ∙ item_not_end t.form o)
+        | inr x ↦ none_blank x.may (item_token t.form o)
+      ]
+
 in_place_steps : (n : ℕ) (levels : Type 0) (deeper : Spelling) (w : List Shape) → AllBegin w deeper → (least : ℕ) (t : Plain) (i j : Spot) → InPlace n levels deeper w s.Item least t i j → i.place < j.place
 unfolding InPlace
 in_place_steps zero levels deeper w D least t i j A = absurd A
@@ -50,6 +66,18 @@ pub item_steps : (d : ℕ) (w : List Shape) (least : ℕ) (t : Plain) (i j : Spo
 unfolding Spells
 item_steps zero w = in_place_steps places ⊥ nothing_spelled w (λ due least t i j r A. absurd A)
 item_steps (suc d) w = in_place_steps places (Unit {0}) (Spells d w) w (spells_begin d w)
+
+in_place_some : (n : ℕ) (levels : Type 0) (deeper : Spelling) (w : List Shape) → AllBegin w deeper → (least : ℕ) (t : Plain) (i j : Spot) → InPlace n levels deeper w s.Item least t i j → raw_at w i.place ≡ shape.End → ⊥
+unfolding InPlace
+in_place_some zero levels deeper w D least t i j A e = absurd A
+in_place_some (suc n) levels deeper w D least t i j A e =
+    node_some levels deeper (InPlace n levels deeper w) w D (in_place_begins n levels deeper w D) least t (started_by (has_no_specifiers t) i) j A (ap (raw_at w) (started_place (has_no_specifiers t) i) ∙ e)
+
+-- at the end of the source no item begins
+pub item_some : (d : ℕ) (w : List Shape) (least : ℕ) (t : Plain) (i j : Spot) → Spells d w s.Item least t i j → raw_at w i.place ≡ shape.End → ⊥
+unfolding Spells
+item_some zero w = in_place_some places ⊥ nothing_spelled w (λ due least t i j r A. absurd A)
+item_some (suc d) w = in_place_some places (Unit {0}) (Spells d w) w (spells_begin d w)
 
 -- ---- items one after the other
 
