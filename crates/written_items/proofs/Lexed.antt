@@ -119,6 +119,7 @@ spelled_as text (Some x) sort e h = e ∙ ap Some h
 means : (text : List ℕ) (sort : Sort) → meaning C90 text ≡ token sort → spelling_of C90 text ≡ Some (token sort)
 unfolding meaning
 means text sort h = spelled_as text (spelling_of C90 text) sort refl h
+
 spelled_number : (names : List (List ℕ)) (text : List ℕ) (sort : Sort) → Has names text → meaning C90 text ≡ token sort → IsSpelled names (record { 0 = number_in names text }) sort
 spelled_number names text sort h m =
     let F = found names text (position (bytes_eq text) names) refl (sym (list_any-position (bytes_eq text) names) ∙ h) in
@@ -173,6 +174,7 @@ known_in names bytes (p ∷ ps) h = known_adds names bytes p (meaning C90 p.text
 known_result : (names : List (List ℕ)) (o : Result (List Token) Bad) (w : List Token) → o ≡ Ok w → OkKnown names o → Every names w
 known_result names (Ok v) w e h = subst (Every names) (let same : v ≡ w = cc e in same) h
 known_result names (Err at) w e h = absurd (cc e)
+
 -- over a table that gained the words of a text, its tokens are known
 pub known_tokens : (names : List (List ℕ)) (bytes : List ℕ) (w : List Token) → tokens_of C90 (gained C90 names bytes) bytes ≡ Ok w → AreKnown (gained C90 names bytes) (map (λ t. t.shape) w)
 unfolding tokens_of gained

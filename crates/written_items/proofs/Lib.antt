@@ -1,1 +1,4 @@
 pub mod Lexed
+pub mod Held
+pub mod Spelled
+pub mod Written
