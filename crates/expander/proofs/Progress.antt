@@ -1,188 +1,165 @@
--- Items that were taken in, one by one.
-use Rattle.std.proofs.Common.{◌≡◌, ◌≢◌, refl, ap, sym, subst, ◌∙◌, ℕ, ◌+◌, ◌<◌, ◌≤◌, List, [], ◌∷◌, ◌++◌, Option, Some, None, append_assoc, arith}
-use Rattle.std.proofs.lemmas.List.{append-nil}
-use Rattle.c_tokens.specs.declared.token.Word.{Word}
-use Rattle.c_tokens.specs.declared.token.Token.{Token}
-use Rattle.c_tokens.specs.declared.token.Shape.{Shape}
-use Rattle.c_tokens.specs.declared.token.Shape.TheVariants.{End}
-use Rattle.c_tokens.specs.declared.token.Shape.TheVariants as s
-use Rattle.c_tokens.specs.declared.token.Key.TheVariants as key
-use Rattle.c_tokens.specs.declared.token.Mark.TheVariants as mark
-use Rattle.syntax_trees.specs.declared.plain.PlainItem.{PlainItem}
-use Rattle.first_trees.specs.declared.first.Declaration.{Declaration}
-use Rattle.first_trees.proofs.ItemViews.{built_single}
-use Rattle.first_trees.specs.declared.first.First.{First}
-use Rattle.first_trees.specs.declared.first.FirstItem.{FirstItem}
-use Rattle.c_grammar.specs.Reader.{shape_at}
-use Rattle.c_grammar.specs.Grammar.{an_item, item_by, defined as defines}
-use Rattle.c_tokens.specs.declared.token.Punct.TheVariants as punct
-use Rattle.first_trees.specs.declared.first.FirstItem.TheVariants as item
-use Rattle.c_grammar.specs.Spells.{SpellsItem, SpellsDeclaration}
-use Rattle.c_grammar.specs.Laws.{AreKnown, IsFirstDead, IsTooDeep}
-use Rattle.c_grammar.proofs.Heights.{low_value, low_template}
-use Rattle.c_grammar.proofs.Named.{built_value, built_template}
-use Rattle.templates.proofs.Kept.{value_built, template_built}
-use Rattle.c_grammar.proofs.Local.{from}
-use Rattle.c_grammar.proofs.Items.{item_read}
-use Rattle.c_grammar.proofs.Advance.{Takes, advances}
-use denote.Ref.{Bor}
-use Rattle.std.specs.Option.{option_copied}
-use Rattle.std.proofs.Common.{length, Bool, true, false, IsTrue, inl, inr, Result, Err}
+-- Items that were read, one by one.
+use Rattle.std.proofs.Common.{◌≡◌, ◌≢◌, refl, ap, sym, subst, ◌∙◌, ℕ, ◌+◌, ◌<◌, ◌≤◌, List, [], ◌∷◌, ◌++◌, append_assoc, length, map, Bool, true, false, IsTrue, inl, inr, Result, Ok, Err, arith}
+use Rattle.std.specs.Prelude.{if◌then◌else◌}
 use Rattle.std.proofs.lemmas.Bool.{cases_lt}
-use Rattle.std.proofs.lemmas.List.{get_or_past}
-use Rattle.c_grammar.specs.Reader.{the_end}
-use Rattle.c_grammar.specs.declared.refusal.Refusal.{Refusal}
-use Rattle.c_grammar.specs.declared.refusal.Refusal.TheVariants as refusal
-use Rattle.c_parser.specs.Answers.{name_of as seen_name}
+use Rattle.std.proofs.Math.ListN.{get_or-map}
+use Rattle.std.proofs.lemmas.List.{append-nil, get_or_past}
+use Rattle.c_tokens.specs.declared.token.Token.{Token}
+use Rattle.c_tokens.specs.declared.token.Shape.TheVariants.{End}
+use Rattle.c_tokens.specs.Tokens.{token_at as a_token}
+use Rattle.c_forms.specs.Forests.{Plain}
+use Rattle.c_reader.specs.Tokens.{spot}
+use Rattle.c_reader.specs.declared.refusal.Refusal.{Refusal}
+use Rattle.c_reader.specs.declared.refusal.Refusal.TheVariants as refusal
+use Rattle.scope_tables.specs.Frames.{Frame}
+use Rattle.scopes.specs.Events.{in_order, events}
+use Rattle.scopes.specs.Settling.{Scoped, settled}
+use Rattle.spelled_scopes.proofs.Frames.{settled_on}
+use Rattle.draft_trees.specs.Placing.{placed}
+use Rattle.table_parser.specs.Cursors.{shape_of}
+use Rattle.printed_items.proofs.Steps.{item_steps, item_some}
+use Rattle.item_parser.specs.Answers.{IsNext, Gives}
+use Rattle.item_parser.specs.Readings.{Reading, start, IsFirstDead, IsTooDeep}
 use Rattle.expander.specs.declared.stop.Stop.{Stop}
-use Rattle.expander.specs.declared.stop.Stop.TheVariants.{Syntax, TooDeep, Memory}
-use Rattle.expander.specs.Meaning.{limit, name_of, defined, defined_by, Read, meaning_of, meaning, IsTranslation, Refused, IsTaken, IsRefusal, IsStop, stop_at, AreFew, IsReady, CanExpand, CanTake}
+use Rattle.expander.specs.declared.stop.Stop.TheVariants.{Syntax, TooDeep, NotBuilt, Memory}
+use Rattle.expander.specs.Meaning.{limit, shape_at, span_at, is_definition, IsItem, Read, IsTranslation, HasNoItems, IsStop, HasNoItem, IsTaken, IsRefusal, stop_at}
 
--- what was read so far, the macro that is defined, and what is written
-pub record Progress (names : List (List ℕ)) (w : List Token) (first : Option First) (written : List PlainItem) (at : ℕ) : Type 0 where
-  pub items : List FirstItem
-  pub read : Read names w None items 0 at
-  pub last : first ≡ defined_by None items
-  pub value : written ≡ meaning None items
+-- items go on after those that were read
+pub record Goes (w : List Token) (written others : List Plain) (at : ℕ) (scopes : List Frame) (end : ℕ) (after : List Frame) : Type 0 where
+  pub rest : List Plain
+  pub is : others ≡ written ++ rest
+  pub read : Read w scopes rest at end after
 
-pub begun : (names : List (List ℕ)) (w : List Token) → Progress names w None [] 0
-unfolding Read defined_by meaning
-begun names w = record { items = []; read = refl; last = refl; value = refl }
+-- what was read so far, with which the items of each whole source begin
+pub record Progress (w : List Token) (scopes : List Frame) (written : List Plain) (at : ℕ) : Type 0 where
+  pub read : Read w ([] ∷ []) written 0 at scopes
+  pub only : (others : List Plain) (end : ℕ) (after : List Frame) → Read w ([] ∷ []) others 0 end after → shape_at w end ≡ End → Goes w written others at scopes end after
+
+pub begun : (w : List Token) → Progress w ([] ∷ []) [] 0
+unfolding Read
+begun w = record { read = (refl, refl); only = λ others end after R e. record { rest = others; is = refl; read = R } }
 
 -- ---- one more item
 
-read_more : (names : List (List ℕ)) (w : List Token) (first : Option First) (ts : List FirstItem) (t : FirstItem) (i j k : ℕ)
-    → Read names w first ts i j → SpellsItem limit w names (name_of (defined_by first ts)) t j k → Read names w first (ts ++ t ∷ []) i k
-unfolding Read defined_by
-read_more names w first [] t i j k R S = (k, (subst (λ i. SpellsItem limit w names (name_of first) t i k) (sym R) S, refl))
-read_more names w first (u ∷ ts) t i j k R S = (R.0, (R.1.0, read_more names w (defined first u) ts t R.0 j k R.1.1 S))
+read_more : (w : List Token) (s : List Frame) (ts : List Plain) (t : Plain) (i j k : ℕ) (hs gs : List Frame) → Read w s ts i j hs → IsItem w hs j t k gs → Read w s (ts ++ t ∷ []) i k gs
+unfolding Read
+read_more w s [] t i j k hs gs R S = (k, (gs, (subst (λ n. IsItem w s n t k gs) (sym R.0) (subst (λ s. IsItem w s j t k gs) (sym R.1) S), (refl, refl))))
+read_more w s (u ∷ us) t i j k hs gs R S = (R.0, (R.1.0, (R.1.1.0, read_more w R.1.0 us t R.0 j k hs gs R.1.1.1 S)))
 
-defined_more : (first : Option First) (ts : List FirstItem) (t : FirstItem) → defined_by first (ts ++ t ∷ []) ≡ defined (defined_by first ts) t
-unfolding defined_by
-defined_more first [] t = refl
-defined_more first (u ∷ ts) t = defined_more (defined first u) ts t
+same_scopes : (a b : List Frame) → Scoped a ≡ Scoped b → a ≡ b
+same_scopes a b e = cc e
 
-meaning_more : (first : Option First) (ts : List FirstItem) (t : FirstItem) → meaning first (ts ++ t ∷ []) ≡ meaning first ts ++ meaning_of (defined_by first ts) t
-unfolding meaning defined_by
-meaning_more first [] t = append-nil (meaning_of first t)
-meaning_more first (u ∷ ts) t = ap (λ x. meaning_of first u ++ x) (meaning_more (defined first u) ts t)
-    ∙ sym (append_assoc (meaning_of first u) (meaning (defined first u) ts) (meaning_of (defined_by (defined first u) ts) t))
+module _ (w : List Token) (scopes : List Frame) (written : List Plain) (at : ℕ) (new : List Frame) (new_written : List Plain) (end : ℕ)
+    (more : shape_at w at ≢ End) (T : IsTaken w scopes written at new new_written end) where
+  rest_goes : (others : List Plain) (last : ℕ) (after : List Frame) (rest : List Plain) → others ≡ written ++ rest → Read w scopes rest at last after → shape_at w last ≡ End → Goes w new_written others end new last after
+  unfolding Read
+  rest_goes others last after [] is R e = absurd (more (ap (shape_at w) R.0 ∙ e))
+  rest_goes others last after (u ∷ us) is R e =
+      let same = T.only u R.0 R.1.0 R.1.1.0 in
+      let scopes_same : R.1.0 ≡ new = same_scopes R.1.0 new (sym R.1.1.0.settles ∙ ap (λ t. settled (events t) scopes) same.0 ∙ T.is_item.settles) in
+      record {
+        rest = us;
+        is = is ∙ ap (λ t. written ++ t ∷ us) same.0 ∙ sym (append_assoc written (T.item ∷ []) us) ∙ ap (λ ts. ts ++ us) (sym T.written_is);
+        read = subst (λ s. Read w s us end last after) scopes_same (subst (λ n. Read w R.1.0 us n last after) same.1 R.1.1.1);
+      }
 
-pub more : (names : List (List ℕ)) (w : List Token) (first : Option First) (written : List PlainItem) (at : ℕ) (t : FirstItem) (k : ℕ)
-    → Progress names w first written at → SpellsItem limit w names (name_of first) t at k → Progress names w (defined first t) (written ++ meaning_of first t) k
-more names w first written at t k P S = record {
-  items = P.items ++ t ∷ [];
-  read = read_more names w None P.items t 0 at k P.read (subst (λ f. SpellsItem limit w names (name_of f) t at k) P.last S);
-  last = ap (λ f. defined f t) P.last ∙ sym (defined_more None P.items t);
-  value = ap (λ x. x ++ meaning_of first t) P.value ∙ ap (λ f. meaning None P.items ++ meaning_of f t) P.last ∙ sym (meaning_more None P.items t);
-}
+  pub taken : Progress w scopes written at → Progress w new new_written end
+  taken P = record {
+    read = subst (λ ts. Read w ([] ∷ []) ts 0 end new) (sym T.written_is) (read_more w ([] ∷ []) written T.item 0 at end scopes new P.read T.is_item);
+    only = λ others last after R e. let G = P.only others last after R e in rest_goes others last after G.rest G.is G.read e;
+  }
 
--- an item takes a token
-takes_defined : (names : List (List ℕ)) (m : Option Word) → Takes (defines names m)
-takes_defined names None = tt
-takes_defined names (Some m) = tt
-
-takes_by : (names : List (List ℕ)) (m : Option Word) (x : Shape) → Takes (item_by names m x)
-takes_by names m (s.Key key.Int) = tt
-takes_by names m (s.Mark mark.Syntax) = takes_defined names m
-takes_by names m _ = tt
-
-takes_item : (names : List (List ℕ)) (m : Option Word) → Takes (an_item names m)
-unfolding an_item
-takes_item names m = takes_by names m
-
-pub onward : (w : List Token) (names : List (List ℕ)) (m : Option Word) (t : FirstItem) (i j : ℕ) → SpellsItem limit w names m t i j → i < j
-onward w names m t i j S =
-    let a = advances limit (an_item names m) (from w i) t (from w j) (takes_item names m) (item_read w limit names m limit t i j S (omega arith)) in a.1
+  -- an item takes a token
+  pub nearer : at < end
+  nearer = let R = T.is_item.reading in item_steps limit (map shape_of w) 0 T.is_item.read (start scopes at) (spot end R.after) R.spelled
 
 -- ---- the end
 
-pub finished : (names : List (List ℕ)) (w : List Token) (first : Option First) (written : List PlainItem) (at : ℕ)
-    → Progress names w first written at → shape_at w at ≡ End → IsTranslation names w written
-finished names w first written at P e = record { items = P.items; source = record { after = at; read = P.read; ends = e }; value = P.value }
+module _ (w : List Token) (scopes : List Frame) (written : List Plain) (at : ℕ) (P : Progress w scopes written at) where
+  at_end : (others rest : List Plain) (last : ℕ) (after : List Frame) → others ≡ written ++ rest → Read w scopes rest at last after → ((t : Plain) (end : ℕ) (after : List Frame) → IsItem w scopes at t end after → ⊥) → others ≡ written
+  unfolding Read
+  at_end others [] last after is R none = is ∙ append-nil written
+  at_end others (u ∷ us) last after is R none = absurd (none u R.0 R.1.0 R.1.1.0)
 
-pub stopped : (Refuses : List (List ℕ) → Option Word → List Token → ℕ → ℕ → Type 0) (names : List (List ℕ)) (w : List Token) (first : Option First) (written : List PlainItem) (at k : ℕ)
-    → Progress names w first written at → shape_at w at ≢ End → Refuses names (name_of first) w at k → Refused Refuses names w k
-stopped Refuses names w first written at k P more R = record {
-  items = P.items;
-  at = at;
-  read = P.read;
-  more = more;
-  refused = subst (λ f. Refuses names (name_of f) w at k) P.last R;
-}
+  -- at the end of the source no item begins
+  none_at_end : shape_at w at ≡ End → HasNoItem w scopes at
+  none_at_end e t end after I = let R = I.reading in
+      item_some limit (map shape_of w) 0 I.read (start scopes at) (spot end R.after) R.spelled (get_or-map shape_of w at (a_token End 0 0) ∙ e)
 
-pub taken : (names : List (List ℕ)) (w : List Token) (first : Option First) (written : List PlainItem) (at : ℕ) (new_first : Option First) (new_written : List PlainItem) (after : ℕ)
-    → Progress names w first written at → IsTaken names w first written at new_first new_written after → Progress names w new_first new_written after
-taken names w first written at new_first new_written after P T =
-    let Q : Progress names w (defined first T.item) (written ++ meaning_of first T.item) after = more names w first written at T.item after P T.read in
-    record { items = Q.items; read = Q.read; last = T.first_is ∙ Q.last; value = T.written_is ∙ Q.value }
+  pub finished : shape_at w at ≡ End → IsTranslation w written
+  finished e = record {
+    source = record { end = at; after = scopes; read = P.read; ends = e };
+    only = λ others S. let G = P.only others S.end S.after S.read S.ends in at_end others G.rest S.end S.after G.is G.read (none_at_end e);
+  }
 
-pub nearer : (names : List (List ℕ)) (w : List Token) (first : Option First) (written : List PlainItem) (at : ℕ) (new_first : Option First) (new_written : List PlainItem) (after : ℕ)
-    → IsTaken names w first written at new_first new_written after → at < after
-nearer names w first written at new_first new_written after T = onward w names (name_of first) T.item at after T.read
+  none_goes : shape_at w at ≢ End → HasNoItem w scopes at → (rest : List Plain) (last : ℕ) (after : List Frame) → Read w scopes rest at last after → shape_at w last ≡ End → ⊥
+  unfolding Read
+  none_goes more free [] last after R e = more (ap (shape_at w) R.0 ∙ e)
+  none_goes more free (u ∷ us) last after R e = free u R.0 R.1.0 R.1.1.0
 
-pub refused : (names : List (List ℕ)) (w : List Token) (first : Option First) (written : List PlainItem) (at : ℕ) (stop : Stop)
-    → Progress names w first written at → shape_at w at ≢ End → IsRefusal names (name_of first) w at stop → IsStop names w stop
-refused names w first written at (Syntax span) P more R = (R.0, (stopped IsFirstDead names w first written at R.0 P more R.1.0, R.1.1))
-refused names w first written at (TooDeep span) P more R = (R.0, (stopped (IsTooDeep limit) names w first written at R.0 P more R.1.0, R.1.1))
-refused names w first written at Memory P more R = tt
+  none : shape_at w at ≢ End → HasNoItem w scopes at → HasNoItems w
+  none more free others S = let G = P.only others S.end S.after S.read S.ends in none_goes more free G.rest S.end S.after G.read S.ends
+
+  pub refused : (stop : Stop) → shape_at w at ≢ End → IsRefusal w scopes at stop → IsStop w stop
+  refused (Syntax span) more R = (record { items = written; at = at; scopes = scopes; read = P.read; more = more; refused = R.0 }, none more R.1)
+  refused (TooDeep span) more R = (record { items = written; at = at; scopes = scopes; read = P.read; more = more; refused = R.0 }, none more R.1)
+  refused (NotBuilt span) more R = (record { items = written; at = at; scopes = scopes; read = P.read; more = more; refused = R.0 }, none more R.1)
+  refused Memory more R = tt
+
+-- the events of items that were read hold one after the other
+pub all_settled : (w : List Token) (fs : List Frame) (ts : List Plain) (i j : ℕ) (gs : List Frame) → Read w fs ts i j gs → settled (in_order (map events ts)) fs ≡ Scoped gs
+unfolding Read
+all_settled w fs [] i j gs R = ap Scoped R.1
+all_settled w fs (t ∷ ts) i j gs R = settled_on (events t) (in_order (map events ts)) fs R.1.0 R.1.1.0.settles ∙ all_settled w R.1.0 ts R.0 j gs R.1.1.1
 
 -- ---- parts of the code
-
--- the name of a macro that is borrowed
-pub same_name : (seen : Option (Bor First)) (first : Option First) → option_copied seen ≡ first → seen_name seen ≡ name_of first
-same_name (Some f) first e = ap name_of e
-same_name None first e = ap name_of e
 
 -- what is no end is within the tokens
 pub within : (w : List Token) (at : ℕ) → shape_at w at ≢ End → at < length w
 within w at more = elim (cases_lt at (length w)) [
   | inl less ↦ less
-  | inr past ↦ absurd (more (ap (λ t. t.shape) (get_or_past w at the_end past)))
+  | inr past ↦ absurd (more (ap (λ t. t.shape) (get_or_past w at (a_token End 0 0) past)))
 ]
 
 pub not_true : (b : Bool) (P : Type 0) → b ≡ false → (P → IsTrue b) → P → ⊥
 not_true true P e h p = absurd cc
 not_true false P e h p = absurd (cc (h p))
 
-abbrev pub failed : Refusal → Result (FirstItem × ℕ) Refusal
-failed e = Err e
+-- ---- what the reader answers
 
-pub as_stop : (names : List (List ℕ)) (m n : Option Word) (w : List Token) (at : ℕ) (e : Refusal) (stop : Stop) → m ≡ n → stop ≡ stop_at w e
-    → ((k : ℕ) → failed e ≡ failed (refusal.Syntax k) → IsFirstDead names m w at k)
-    → ((k : ℕ) → failed e ≡ failed (refusal.TooDeep k) → IsTooDeep limit names m w at k) → IsRefusal names n w at stop
-as_stop names m n w at (refusal.Syntax k) stop same is dead deep = subst (IsRefusal names n w at) (sym is) (k, (subst (λ m. IsFirstDead names m w at k) same (dead k refl), refl))
-as_stop names m n w at (refusal.TooDeep k) stop same is dead deep = subst (IsRefusal names n w at) (sym is) (k, (subst (λ m. IsTooDeep limit names m w at k) same (deep k refl), refl))
-as_stop names m n w at refusal.Memory stop same is dead deep = subst (IsRefusal names n w at) (sym is) tt
+module _ (w : List Token) (scopes : List Frame) (at : ℕ) where
+  pub next_item : (t : Plain) (end : ℕ) (new : List Frame) → IsNext w scopes at (t, end) → settled (events t) scopes ≡ Scoped new → IsItem w scopes at t end new
+  next_item t end new N S = record { read = N.item; reading = N.reading; is_placed = N.is_placed; settles = S }
 
--- ---- what may be expanded
+  pub only_one : (t : Plain) (end : ℕ) → ((depth : ℕ) (item : Plain) (place : ℕ) → depth ≤ limit → Reading depth scopes (map shape_of w) at item place → Gives {A = Plain × ℕ} (placed w item, place) (Ok (t, end)))
+      → (u : Plain) (place : ℕ) (after : List Frame) → IsItem w scopes at u place after → (u ≡ t) × (place ≡ end)
+  only_one t end complete u place after I =
+      let G = complete limit I.read place (omega arith) I.reading in
+      (I.is_placed ∙ sym (ap (λ p. p.0) G), sym (ap (λ p. p.1) G))
 
-module _ (names : List (List ℕ)) (w : List Token) (known : AreKnown names w) (few : AreFew w) where
-  early : (k : ℕ) → (x : Shape) → shape_at w k ≡ x → (x ≡ End → ⊥) → k < 1024
-  early k x e other = elim (cases_lt k 1024) [
-    | inl less ↦ less
-    | inr past ↦ absurd (other (sym e ∙ few k past))
-  ]
+  module _ (e : Refusal) (complete : (depth : ℕ) (item : Plain) (place : ℕ) → depth ≤ limit → Reading depth scopes (map shape_of w) at item place → e ≡ refusal.Memory) where
+    none_there : (e ≡ refusal.Memory → ⊥) → HasNoItem w scopes at
+    none_there other t end after I = other (complete limit I.read end (omega arith) I.reading)
 
-  semicolon : s.Punct punct.Semicolon ≡ End → ⊥
-  semicolon e = cc e
+  abbrev failed : Refusal → Result (Plain × ℕ) Refusal
+  failed e = Err e
 
-  expandable : (first : Option First) (t : Declaration) (at after : ℕ) → IsReady names first at → SpellsDeclaration limit w (name_of first) t at after → CanExpand first t
-  expandable None t at after R S = built_single t.value (built_value names w known limit None t at after S)
-  expandable (Some f) t at after R S =
-      let last : S.last < 1024 = early S.last (s.Punct punct.Semicolon) S.ends.0 semicolon in (
-        value_built (Some names) true t.value (built_value names w known limit (Some f.name) t at after S),
-        (template_built (Some names) f.template R.0, omega (arith, R.1, low_value w limit (Some f.name) t at after S, S.ends.1)),
-      )
+  by_definition : (k : ℕ) (b : Bool) → is_definition (shape_at w at) ≡ b → IsFirstDead scopes (map shape_of w) at k → HasNoItem w scopes at → IsRefusal w scopes at (if b then NotBuilt (span_at w at) else Syntax (span_at w k))
+  by_definition k true e D none = ((e, refl), none)
+  by_definition k false e D none = ((k, (D, (refl, e))), none)
 
-  pub takeable : (first : Option First) (t : FirstItem) (at after : ℕ) → IsReady names first at → SpellsItem limit w names (name_of first) t at after → CanTake first t
-  takeable first (item.Declaration t) at after R S = expandable first t at after R S
-  takeable first (item.Definition f) at after R S = tt
+  refused_so : (e : Refusal) → ((depth : ℕ) (item : Plain) (place : ℕ) → depth ≤ limit → Reading depth scopes (map shape_of w) at item place → e ≡ refusal.Memory)
+      → ((k : ℕ) → failed e ≡ failed (refusal.Syntax k) → IsFirstDead scopes (map shape_of w) at k) → ((k : ℕ) → failed e ≡ failed (refusal.TooDeep k) → IsTooDeep limit scopes (map shape_of w) at k)
+      → IsRefusal w scopes at (stop_at w at e)
+  refused_so (refusal.Syntax k) complete dead deep = by_definition k (is_definition (shape_at w at)) refl (dead k refl) (none_there (refusal.Syntax k) complete (λ m. absurd (cc m)))
+  refused_so (refusal.TooDeep k) complete dead deep = ((k, (deep k refl, refl)), none_there (refusal.TooDeep k) complete (λ m. absurd (cc m)))
+  refused_so refusal.Memory complete dead deep = tt
 
-  later : (first : Option First) (at after : ℕ) → at < after → IsReady names first at → IsReady names first after
-  later None at after less R = tt
-  later (Some f) at after less R = (R.0, omega (arith, R.1))
+  pub as_stop : (e : Refusal) (stop : Stop) → stop ≡ stop_at w at e → ((depth : ℕ) (item : Plain) (place : ℕ) → depth ≤ limit → Reading depth scopes (map shape_of w) at item place → e ≡ refusal.Memory)
+      → ((k : ℕ) → failed e ≡ failed (refusal.Syntax k) → IsFirstDead scopes (map shape_of w) at k) → ((k : ℕ) → failed e ≡ failed (refusal.TooDeep k) → IsTooDeep limit scopes (map shape_of w) at k)
+      → IsRefusal w scopes at stop
+  as_stop e stop is complete dead deep = subst (IsRefusal w scopes at) (sym is) (refused_so e complete dead deep)
 
-  pub ready_after : (first : Option First) (t : FirstItem) (at after : ℕ) → IsReady names first at → SpellsItem limit w names (name_of first) t at after → IsReady names (defined first t) after
-  ready_after first (item.Declaration t) at after R S = later first at after (onward w names (name_of first) (item.Declaration t) at after S) R
-  ready_after first (item.Definition f) at after R S = (built_template names w known limit f at after S.1, omega (arith, low_template w limit names f at after S.1))
+pub so_true : (b : Bool) (P : Type 0) → b ≡ true → (IsTrue b → P) → P
+so_true true P e h = h refl
+so_true false P e h = absurd (cc e)

@@ -1,143 +1,121 @@
--- What the items of a source stand for.
-use Rattle.std.specs.Prelude.{◌≡◌, ◌≢◌, ◌≤◌, ℕ, ◌+◌, true, false, List, [], ◌∷◌, ◌++◌, Option, Some, None}
-use denote.Ref.{Bor}
-use Rattle.c_tokens.specs.declared.token.Word.{Word}
+-- The items of a source.
+use Rattle.std.specs.Prelude.{◌≡◌, ◌≢◌, ℕ, Bool, true, false, List, [], ◌∷◌, ◌++◌, map, if◌then◌else◌, slice_index_or}
+use Rattle.c_tokens.specs.declared.span.Span.{Span}
 use Rattle.c_tokens.specs.declared.token.Token.{Token}
-use Rattle.c_tokens.specs.declared.token.Shape.TheVariants.{End}
-use Rattle.first_trees.specs.declared.first.Declaration.{Declaration}
-use Rattle.first_trees.specs.declared.first.First.{First}
-use Rattle.first_trees.specs.declared.first.FirstItem.{FirstItem}
-use Rattle.first_trees.specs.declared.first.FirstItem.TheVariants as item
-use Rattle.c_grammar.specs.Reader.{shape_at, token_at}
-use Rattle.c_grammar.specs.Spells.{SpellsItem}
-use Rattle.c_grammar.specs.Laws.{IsFirstDead, IsTooDeep}
-use Rattle.c_grammar.specs.declared.refusal.Refusal.{Refusal}
-use Rattle.c_grammar.specs.declared.refusal.Refusal.TheVariants as refusal
-use Rattle.syntax_trees.specs.Measures.{height_of_exp}
-use Rattle.syntax_trees.specs.Standings.{is_listed_exp}
-use Rattle.syntax_trees.specs.declared.plain.PlainItem.{PlainItem}
-use Rattle.first_trees.specs.Built.{Built}
-use Rattle.first_trees.specs.Items.{item_of}
-use Rattle.templates.specs.Filling.{expanded}
-use Rattle.templates.specs.Forms.{is_template, is_value}
+use Rattle.c_tokens.specs.declared.token.Shape.{Shape}
+use Rattle.c_tokens.specs.declared.token.Shape.TheVariants as shape
+use Rattle.c_tokens.specs.declared.token.Mark.TheVariants as mark
+use Rattle.c_tokens.specs.Tokens.{token_at as a_token}
+use Rattle.c_forms.specs.Forests.{Plain}
+use Rattle.c_reader.specs.declared.refusal.Refusal.{Refusal}
+use Rattle.c_reader.specs.declared.refusal.Refusal.TheVariants as refusal
+use Rattle.scope_tables.specs.Frames.{Frame}
+use Rattle.scopes.specs.Events.{events}
+use Rattle.scopes.specs.Settling.{Scoped, settled}
+use Rattle.draft_trees.specs.Placing.{placed}
+use Rattle.table_parser.specs.Cursors.{shape_of}
+use Rattle.item_parser.specs.Readings.{Reading, IsFirstDead, IsTooDeep}
 use Rattle.expander.specs.declared.stop.Stop.{Stop}
-use Rattle.expander.specs.declared.stop.Stop.TheVariants.{Syntax, TooDeep, Memory}
+use Rattle.expander.specs.declared.stop.Stop.TheVariants.{Syntax, TooDeep, NotBuilt, Memory}
 
 -- the greatest depth of an item
 abbrev pub limit : ℕ
 limit = 1000
 
--- ---- the macro that is defined
+-- ---- tokens
 
-abbrev pub name_of : Option First → Option Word
-name_of (Some f) = Some f.name
-name_of None = None
+-- after the last token stands the end of the source
+abbrev pub token_at : List Token → ℕ → Token
+token_at w k = slice_index_or w k (a_token shape.End 0 0)
 
--- after an item
-abbrev pub defined : Option First → FirstItem → Option First
-defined first (item.Definition f) = Some f
-defined first (item.Declaration t) = first
+abbrev pub shape_at : List Token → ℕ → Shape
+shape_at w k = (token_at w k).shape
 
--- after items
-unfoldable pub defined_by : Option First → List FirstItem → Option First
-defined_by first [] = first
-defined_by first (t ∷ ts) = defined_by (defined first t) ts
+abbrev pub span_at : List Token → ℕ → Span
+span_at w k = (token_at w k).span
+
+-- a definition begins with it
+abbrev pub is_definition : Shape → Bool
+is_definition (shape.Mark mark.Syntax) = true
+is_definition (shape.Mark mark.Meta) = true
+is_definition _ = false
 
 -- ---- what is read
 
--- Items one after the other, from place i to place j, each read under the macro that was defined before it.
-unfoldable pub Read : List (List ℕ) → List Token → Option First → List FirstItem → ℕ → ℕ → Type 0
-Read names w first [] i j = i ≡ j
-Read names w first (t ∷ ts) i j = (m : ℕ) × (SpellsItem limit w names (name_of first) t i m × Read names w (defined first t) ts m j)
+-- what an item asks of words and declares holds in some scopes
+abbrev pub Settles : List Frame → Plain → Type 0
+Settles scopes t = (after : List Frame) × (settled (events t) scopes ≡ Scoped after)
+
+-- An item (ISO/IEC 9899:1990, 6.7) that the tokens from one place to another spell under these scopes, within the limit,
+-- with its spans in bytes, and the scopes after it.
+pub record IsItem (w : List Token) (scopes : List Frame) (at : ℕ) (t : Plain) (end : ℕ) (after : List Frame) : Type 0 where
+  pub read : Plain
+  pub reading : Reading limit scopes (map shape_of w) at read end
+  pub is_placed : t ≡ placed w read
+  pub settles : settled (events t) scopes ≡ Scoped after
+
+-- Items one after the other, from place i to place j, each under the scopes that those before it leave.
+unfoldable pub Read : List Token → List Frame → List Plain → ℕ → ℕ → List Frame → Type 0
+Read w scopes [] i j after = (i ≡ j) × (scopes ≡ after)
+Read w scopes (t ∷ ts) i j after = (m : ℕ) × ((next : List Frame) × (IsItem w scopes i t m next × Read w next ts m j after))
 
 -- the items of a whole source
-pub record IsSource (names : List (List ℕ)) (w : List Token) (items : List FirstItem) : Type 0 where
-  pub after : ℕ
-  pub read : Read names w None items 0 after
-  pub ends : shape_at w after ≡ End
-
--- ---- what it means
-
--- a call is what the macro's template gives for its argument
-abbrev pub value_under : Option First → Declaration → Declaration
-value_under (Some f) t = record t { value = expanded f.template t.value }
-value_under None t = t
-
--- a definition leaves nothing
-abbrev pub meaning_of : Option First → FirstItem → List PlainItem
-meaning_of first (item.Declaration t) = item_of (value_under first t) ∷ []
-meaning_of first (item.Definition f) = []
-
--- the items of plain C that items stand for
-unfoldable pub meaning : Option First → List FirstItem → List PlainItem
-meaning first [] = []
-meaning first (t ∷ ts) = meaning_of first t ++ meaning (defined first t) ts
+pub record IsSource (w : List Token) (items : List Plain) : Type 0 where
+  pub end : ℕ
+  pub after : List Frame
+  pub read : Read w ([] ∷ []) items 0 end after
+  pub ends : shape_at w end ≡ shape.End
 
 -- ---- the answers
 
--- the tokens are items that stand for these items of plain C
-pub record IsTranslation (names : List (List ℕ)) (w : List Token) (written : List PlainItem) : Type 0 where
-  pub items : List FirstItem
-  pub source : IsSource names w items
-  pub value : written ≡ meaning None items
+-- the tokens are a source with these items, and with no others
+pub record IsTranslation (w : List Token) (items : List Plain) : Type 0 where
+  pub source : IsSource w items
+  pub only : (others : List Plain) → IsSource w others → others ≡ items
 
--- Items are read up to a place that is not the end, and the next one is refused at place k.
-pub record Refused (Refuses : List (List ℕ) → Option Word → List Token → ℕ → ℕ → Type 0) (names : List (List ℕ)) (w : List Token) (k : ℕ) : Type 0 where
-  pub items : List FirstItem
+-- the tokens are no source
+abbrev pub HasNoItems : List Token → Type 0
+HasNoItems w = (items : List Plain) → IsSource w items → ⊥
+
+-- Why the next item is not read under these scopes, with the place of a token in bytes.
+abbrev pub Refuses : List Token → List Frame → ℕ → Stop → Type 0
+Refuses w scopes at (Syntax span) = (k : ℕ) × (IsFirstDead scopes (map shape_of w) at k × ((span ≡ span_at w k) × (is_definition (shape_at w at) ≡ false)))
+Refuses w scopes at (TooDeep span) = (k : ℕ) × (IsTooDeep limit scopes (map shape_of w) at k × (span ≡ span_at w k))
+Refuses w scopes at (NotBuilt span) = (is_definition (shape_at w at) ≡ true) × (span ≡ span_at w at)
+Refuses w scopes at Memory = Unit {0}
+
+-- Items are read up to a place that is not the end, and the next one is refused there.
+pub record IsRefused (w : List Token) (stop : Stop) : Type 0 where
+  pub items : List Plain
   pub at : ℕ
-  pub read : Read names w None items 0 at
-  pub more : shape_at w at ≢ End
-  pub refused : Refuses names (name_of (defined_by None items)) w at k
+  pub scopes : List Frame
+  pub read : Read w ([] ∷ []) items 0 at scopes
+  pub more : shape_at w at ≢ shape.End
+  pub refused : Refuses w scopes at stop
 
--- Why the items are not all read, with the token's place in bytes.
-abbrev pub IsStop : List (List ℕ) → List Token → Stop → Type 0
-IsStop names w (Syntax span) = (k : ℕ) × (Refused IsFirstDead names w k × (span ≡ (token_at w k).span))
-IsStop names w (TooDeep span) = (k : ℕ) × (Refused (IsTooDeep limit) names w k × (span ≡ (token_at w k).span))
-IsStop names w Memory = Unit {0}
+-- why the items are not all read
+abbrev pub IsStop : List Token → Stop → Type 0
+IsStop w Memory = Unit {0}
+IsStop w stop = IsRefused w stop × HasNoItems w
 
 -- ---- parts of the code
 
--- one item was read at a place and taken in
-pub record IsTaken (names : List (List ℕ)) (w : List Token) (first : Option First) (written : List PlainItem) (at : ℕ)
-    (new_first : Option First) (new_written : List PlainItem) (after : ℕ) : Type 0 where
-  pub item : FirstItem
-  pub read : SpellsItem limit w names (name_of first) item at after
-  pub first_is : new_first ≡ defined first item
-  pub written_is : new_written ≡ written ++ meaning_of first item
+-- no item begins there
+abbrev pub HasNoItem : List Token → List Frame → ℕ → Type 0
+HasNoItem w scopes at = (t : Plain) (end : ℕ) (after : List Frame) → IsItem w scopes at t end after → ⊥
 
--- why the next item is refused
-abbrev pub IsRefusal : List (List ℕ) → Option Word → List Token → ℕ → Stop → Type 0
-IsRefusal names m w at (Syntax span) = (k : ℕ) × (IsFirstDead names m w at k × (span ≡ (token_at w k).span))
-IsRefusal names m w at (TooDeep span) = (k : ℕ) × (IsTooDeep limit names m w at k × (span ≡ (token_at w k).span))
-IsRefusal names m w at Memory = Unit {0}
+-- one item was read at a place and put after the others
+pub record IsTaken (w : List Token) (scopes : List Frame) (written : List Plain) (at : ℕ) (new_scopes : List Frame) (new_written : List Plain) (end : ℕ) : Type 0 where
+  pub item : Plain
+  pub is_item : IsItem w scopes at item end new_scopes
+  pub written_is : new_written ≡ written ++ item ∷ []
+  pub only : (t : Plain) (place : ℕ) (after : List Frame) → IsItem w scopes at t place after → (t ≡ item) × (place ≡ end)
 
-abbrev pub stop_at : List Token → Refusal → Stop
-stop_at w (refusal.Syntax k) = Syntax (token_at w k).span
-stop_at w (refusal.TooDeep k) = TooDeep (token_at w k).span
-stop_at w refusal.Memory = Memory
+abbrev pub IsRefusal : List Token → List Frame → ℕ → Stop → Type 0
+IsRefusal w scopes at Memory = Unit {0}
+IsRefusal w scopes at stop = Refuses w scopes at stop × HasNoItem w scopes at
 
-abbrev pub value_seen : Option (Bor First) → Declaration → Declaration
-value_seen (Some f) t = value_under (Some f.now) t
-value_seen None t = t
-
--- No token stands from place 1024 on: the first form of a macro can then make no expression that is too high.
-abbrev pub AreFew : List Token → Type 0
-AreFew w = (k : ℕ) → 1024 ≤ k → shape_at w k ≡ End
-
--- the template of the macro has the forms that are read, and is lower than the number of tokens before this place
-abbrev pub IsReady : List (List ℕ) → Option First → ℕ → Type 0
-IsReady names (Some f) at = Built (Some names) true false f.template × (height_of_exp f.template + 19 ≤ at)
-IsReady names None at = Unit {0}
-
--- the value of a declaration can be expanded under the macro
-abbrev pub CanExpand : Option First → Declaration → Type 0
-CanExpand (Some f) t = (is_value t.value ≡ true) × ((is_template f.template ≡ true) × (height_of_exp t.value + height_of_exp f.template ≤ 1000))
-CanExpand None t = is_listed_exp t.value ≡ false
-
-abbrev pub CanTake : Option First → FirstItem → Type 0
-CanTake first (item.Declaration t) = CanExpand first t
-CanTake first (item.Definition f) = Unit {0}
-
-abbrev pub seen : Option (Bor First) → Option First
-seen (Some f) = Some f.now
-seen None = None
+abbrev pub stop_at : List Token → ℕ → Refusal → Stop
+stop_at w at (refusal.Syntax k) = if is_definition (shape_at w at) then NotBuilt (span_at w at) else Syntax (span_at w k)
+stop_at w at (refusal.TooDeep k) = TooDeep (span_at w k)
+stop_at w at refusal.Memory = Memory

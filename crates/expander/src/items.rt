@@ -1,58 +1,78 @@
 //! The fold over the items.
 
-ghost use Rattle.std.specs.Prelude.{◌≡◌, ◌++◌, ◌↔◌, IfOk, IfErr, IsTrue, OnOk};
+ghost use Rattle.std.specs.Prelude.{◌≡◌, ◌≤◌, ◌<◌, ◌-◌, ◌^◌, ◌++◌, ◌∷◌, [], ◌↔◌, IfErr, IfOk, IsTrue, OnOk, length};
 ghost use Rattle.c_tokens.specs.declared.token.Shape.TheVariants.{End};
-ghost use Rattle.c_grammar.specs.Reader.{shape_at, token_at};
-ghost use Rattle.c_grammar.specs.Laws.{AreKnown};
-ghost use Rattle.first_trees.specs.Items.{item_of};
-ghost use Rattle.expander.specs.Meaning.{AreFew, IsReady, CanExpand, CanTake, seen, IsTranslation, IsStop, IsTaken, IsRefusal, name_of, defined, meaning_of, value_seen, stop_at};
+ghost use Rattle.expander.specs.Meaning.{IsRefusal, IsStop, IsTaken, IsTranslation, Settles, is_definition, shape_at, span_at, stop_at};
+ghost use Rattle.scopes.specs.Events.{events};
+ghost use Rattle.scopes.specs.Settling as settling;
 
 use crate::stop::Stop;
-use c_parser::{Refusal, read_item};
-use c_tokens::{Memory, Shape, Span, Token, Words};
-use first_trees::{Declaration, First, FirstItem, Item};
+use c_reader::Refusal;
+use c_tokens::{Mark, Memory, Shape, Span, Token};
+use checked_trees::Item;
+use item_parser::read_item;
+use scopes::{Scopes, WalkStop};
 use sqlite_items::Items;
 use std::alloc::Global;
-use templates::expand;
 
-/// The items of plain C that all items of the tokens stand for.
-pub fn feed(alloc: Global, tokens: &[Token], words: &Words) -> Result<Items<Item>, Stop>
-    requires known { AreKnown words.now tokens.now }
-    requires few { AreFew tokens.now }
-    ensures translated { IfOk result (λ written. IsTranslation words.now tokens.now written) }
-    ensures stopped { IfErr result (λ stop. IsStop words.now tokens.now stop) }
+/// All items of the tokens, the last of which is the end of the source.
+pub fn feed(alloc: Global, tokens: &[Token]) -> Result<Items<Item>, Stop>
+    requires short { length tokens.now < 2 ^ 32 - 1 }
+    ensures translated { IfOk result (λ written. IsTranslation tokens.now written) }
+    ensures stopped { IfErr result (λ stop. IsStop tokens.now stop) }
 {
-    let mut first = None;
+    let mut scopes = Scopes::new(alloc);
     let mut written = Items::new(alloc);
     let mut at = 0;
     'items: while !is_end(tokens, at) {
-        at = take_next(alloc, tokens, at, words, &mut first, &mut written)?;
+        match take_next(alloc, tokens, at, &mut scopes, &mut written) {
+            Ok(after) => at = after,
+            Err(stop) => return Err(stop),
+        }
     }
     Ok(written)
 }
 
-/// Reads the next item and takes it in. The answer is the place after it.
+/// Reads the next item, settles it and puts it after the others. The answer is the place after it.
 fn take_next(
     alloc: Global,
     tokens: &[Token],
     at: usize,
-    words: &Words,
-    first: &mut Option<First>,
+    scopes: &mut Scopes,
     written: &mut Items<Item>,
 ) -> Result<usize, Stop>
-    requires known { AreKnown words.now tokens.now }
-    requires few { AreFew tokens.now }
-    requires ready { IsReady words.now first.old at }
-    ensures taken { IfOk result (λ after. IsTaken words.now tokens.now first.old written.old at first.new written.new after) }
-    ensures ready { IfOk result (λ after. IsReady words.now first.new after) }
-    ensures stopped { IfErr result (λ stop. IsRefusal words.now (name_of first.old) tokens.now at stop) }
+    requires short { length tokens.now < 2 ^ 32 - 1 }
+    requires inside { at ≤ length tokens.now }
+    ensures taken { IfOk result (λ after. IsTaken tokens.now scopes.old written.old at scopes.new written.new after) }
+    ensures stopped { IfErr result (λ stop. IsRefusal tokens.now scopes.old at stop) }
 {
-    match read_item(alloc, tokens, at, first.as_ref(), words) {
+    match read_item(alloc, tokens, at, scopes) {
         Ok((item, after)) => {
-            take(alloc, item, first, written)?;
+            settle(scopes, &item)?;
+            keep(written, item)?;
             Ok(after)
         }
-        Err(refusal) => Err(stop(tokens, refusal)),
+        Err(refusal) => Err(stop(tokens, at, refusal)),
+    }
+}
+
+/// Puts an item after the others.
+fn keep(written: &mut Items<Item>, item: Item) -> Result<(), Memory>
+    ensures { OnOk result (written.new ≡ written.old ++ item ∷ []) }
+{
+    written.push(item)?;
+    Ok(())
+}
+
+/// Goes through the events of an item whose events hold.
+fn settle(scopes: &mut Scopes, item: &Item) -> Result<(), Memory>
+    requires { Settles scopes.old item.now }
+    ensures { OnOk result (settling.settled (events item.now) scopes.old ≡ settling.Scoped scopes.new) }
+{
+    match scopes.walk_item(item) {
+        Ok(()) => Ok(()),
+        Err(WalkStop::Memory) => Err(Memory),
+        Err(WalkStop::Clash { .. }) => unreachable!(),
     }
 }
 
@@ -66,65 +86,39 @@ fn is_end(tokens: &[Token], at: usize) -> bool
     }
 }
 
-/// Takes in one item: a definition is kept, and a declaration is expanded and put after the others.
-fn take(
-    alloc: Global,
-    item: FirstItem,
-    first: &mut Option<First>,
-    written: &mut Items<Item>,
-) -> Result<(), Memory>
-    requires { CanTake first.old item }
-    ensures first { OnOk result (first.new ≡ defined first.old item) }
-    ensures written { OnOk result (written.new ≡ written.old ++ meaning_of first.old item) }
-{
-    match item {
-        FirstItem::Definition(definition) => {
-            *first = Some(definition);
-        }
-        FirstItem::Declaration(declaration) => {
-            let item = expanded(alloc, declaration, first.as_ref())?;
-            written.push(item)?;
-        }
-    }
-    Ok(())
-}
-
-/// The item of a declaration with each call in its value expanded.
-fn expanded(alloc: Global, declaration: Declaration, first: Option<&First>) -> Result<Item, Memory>
-    requires { CanExpand (seen first) declaration }
-    ensures { IfOk result (λ made. made ≡ item_of (value_seen first.entry declaration)) }
-{
-    match first {
-        Some(definition) => {
-            let value = expand(alloc, &declaration.value, &definition.template)?;
-            let declaration = Declaration {
-                name: declaration.name,
-                value,
-                specifier: declaration.specifier,
-                at: declaration.at,
-                given: declaration.given,
-                span: declaration.span,
-            };
-            declaration.into_item(alloc)
-        }
-        None => declaration.into_item(alloc),
-    }
-}
-
-/// The stop at the token that was refused.
-fn stop(tokens: &[Token], refusal: Refusal) -> Stop
-    ensures { result ≡ stop_at tokens.now refusal }
+/// The stop at the token that was refused in an item, or at a definition that is one.
+fn stop(tokens: &[Token], at: usize, refusal: Refusal) -> Stop
+    ensures { result ≡ stop_at tokens.now at refusal }
 {
     match refusal {
-        Refusal::Syntax(at) => Stop::Syntax(span_at(tokens, at)),
-        Refusal::TooDeep(at) => Stop::TooDeep(span_at(tokens, at)),
+        Refusal::Syntax(place) => {
+            if is_definition(tokens, at) {
+                Stop::NotBuilt(span_at(tokens, at))
+            } else {
+                Stop::Syntax(span_at(tokens, place))
+            }
+        }
+        Refusal::TooDeep(place) => Stop::TooDeep(span_at(tokens, place)),
         Refusal::Memory => Stop::Memory,
     }
 }
 
-/// The span of the token at a place, and an empty one at 0 after the last.
+/// Whether a definition begins at a place.
+fn is_definition(tokens: &[Token], at: usize) -> bool
+    ensures { result ≡ is_definition (shape_at tokens.now at) }
+{
+    match tokens.get(at) {
+        Some(token) => match token.shape {
+            Shape::Mark(Mark::Syntax | Mark::Meta) => true,
+            _ => false,
+        },
+        None => false,
+    }
+}
+
+/// The bytes of the token at a place, and none at 0 after the last.
 fn span_at(tokens: &[Token], at: usize) -> Span
-    ensures { result ≡ (token_at tokens.now at).span }
+    ensures { result ≡ span_at tokens.now at }
 {
     match tokens.get(at) {
         Some(token) => token.span,

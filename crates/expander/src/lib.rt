@@ -1,4 +1,4 @@
-//! The items of a source in order: each is read, and expanded under the macro that was defined before it.
+//! The items of a source in order: each is read and settled under the scopes that those before it leave.
 #![tactic(auto)]
 
 mod items;

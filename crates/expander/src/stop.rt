@@ -2,13 +2,15 @@
 
 use c_tokens::{Memory, Span};
 
-/// Why a source was refused, with the place of the token that shows it.
+/// Why a source was refused, with the bytes of the token that shows it.
 #[derive(Clone, Copy, Debug, PartialEq, Eq)]
 pub enum Stop {
     /// the first token that no item has there
     Syntax(Span),
     /// a token that each such item has too deep
     TooDeep(Span),
+    /// a definition of a macro begins there
+    NotBuilt(Span),
     Memory,
 }
 

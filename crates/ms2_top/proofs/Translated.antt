@@ -1,77 +1,84 @@
 -- What comes of a source, from what its parts answer.
-use Rattle.std.proofs.Common.{◌≡◌, refl, ap, sym, subst, ◌∙◌, IfOk, ℕ, List, [], None, Result, Ok, Err, bytes_eq}
-use Rattle.std.specs.List.{AllPass, IsDistinct}
+use Rattle.std.proofs.Common.{◌≡◌, refl, ap, sym, subst, ◌∙◌, ◌<◌, IfOk, ℕ, List, [], ◌∷◌, flat_map, length, Result, Ok, Err}
 use Rattle.c_tokens.specs.declared.token.Token.{Token}
 use Rattle.c_tokens.specs.declared.lexical.Dialect.TheVariants.{C90}
-use Rattle.c_tokens.specs.Tokens.{tokens_of}
-use Rattle.syntax_trees.specs.declared.plain.PlainItem.{PlainItem}
-use Rattle.first_trees.specs.declared.first.FirstItem.{FirstItem}
-use Rattle.c_grammar.specs.Words.{AreDistinct}
-use Rattle.c_grammar.specs.Laws.{AreKnown}
-use Rattle.c_grammar.proofs.Lexed.{known_tokens}
-use Rattle.c_printer.specs.Layout.{layout}
-use Rattle.c_printer.specs.ReadBack.{IsReadBack, ReadsBack, ArePrintable, deepest}
-use Rattle.expander.specs.declared.stop.Stop.{Stop}
-use Rattle.expander.specs.declared.stop.Stop.TheVariants.{Syntax, TooDeep, Memory}
-use Rattle.expander.specs.Meaning.{IsSource, IsStop, IsTranslation, meaning}
 use Rattle.c_tokens.specs.declared.memory.Memory.{Memory as Gone}
+use Rattle.c_tokens.specs.Tokens.{Bad, tokens_of}
+use Rattle.c_forms.specs.Forests.{Plain}
+use Rattle.c_layout.specs.Layout.{layout}
+use Rattle.text_tokens.specs.Items.{AreWrittenItems}
+use Rattle.expander.proofs.Progress.{all_settled}
+use Rattle.ms2_top.proofs.Again.{all_written, twice_low}
+use Rattle.c_text.specs.Text.{text as text_of_marks}
+use Rattle.expander.specs.declared.stop.Stop.{Stop}
+use Rattle.expander.specs.declared.stop.Stop.TheVariants.{Syntax, TooDeep, NotBuilt, Memory}
+use Rattle.expander.specs.Meaning.{IsSource, IsStop, IsTranslation, HasNoItems}
 use Rattle.ms2_top.specs.declared.source.Outcome.{Outcome}
-use Rattle.ms2_top.specs.declared.source.Outcome.TheVariants.{Stopped}
-use Rattle.ms2_top.specs.Outcomes.{IsOutcome, texts_of, IsPlain, IsTextOf, HasNoReading, IsStopOf}
-use Rattle.ms2_top.proofs.Meanings.{none_sound, printable_meaning, pure_printable}
-use Rattle.ms2_top.proofs.Plain.{one_plain, same_tokens}
-use Rattle.ms2_top.proofs.Refusals.{first_dead_none, too_deep_none}
+use Rattle.ms2_top.specs.declared.source.Outcome.TheVariants.{Text, Lex, Stopped, TextTooLarge}
+use Rattle.ms2_top.specs.Outcomes.{IsOutcome, texts_of, written, most_text_bytes, IsSourceOf, IsOnly, IsTextOf, HasTooMuch, HasNoReading, IsStopOf, IsPrintedText, IsPrinted}
+
+same_tokens : (o : Result (List Token) Bad) (v w : List Token) → o ≡ Ok v → o ≡ Ok w → v ≡ w
+same_tokens o v w e h = let g : ◌≡◌ {A = Result (List Token) Bad} (Ok v) (Ok w) = sym e ∙ h in cc g
 
 module _ (bytes : List ℕ) (w : List Token) (lexed : tokens_of C90 (texts_of bytes) bytes ≡ Ok w) where
-  pub known : AreKnown (texts_of bytes) w
-  known = known_tokens [] bytes w lexed
+  source_of : (items : List Plain) → IsSourceOf bytes items → IsSource w items
+  source_of items S = subst (λ v. IsSource v items) (same_tokens _ S.tokens w S.lexed lexed) S.read
 
-  plain : (written : List PlainItem) (depth : ℕ) (text : List ℕ) (R : ReadsBack (texts_of bytes) written depth text) → IsPlain (texts_of bytes) text R.read
-  plain written depth text R = record { tokens = R.tokens; lexed = R.lexed; depth = depth; last = R.last; spelled = R.spelled; ends = R.ends }
+  is_only : (items : List Plain) → IsTranslation w items → IsOnly bytes items
+  is_only items T = record {
+    source = record { tokens = w; lexed = lexed; read = T.source };
+    only = λ others S. T.only others (source_of others S);
+  }
 
-  pub is_text : (written : List PlainItem) (text : List ℕ) → IsDistinct bytes_eq (texts_of bytes) → IsTranslation (texts_of bytes) w written
-      → text ≡ layout (texts_of bytes) written → IsReadBack (texts_of bytes) written text → IsTextOf bytes text
-  is_text written text distinct T e back =
-      let printable : ArePrintable (texts_of bytes) (meaning None T.items) = printable_meaning (texts_of bytes) w known None T.items 0 T.source.after (none_sound (texts_of bytes) w known) T.source.read in
-      let depth : ℕ = deepest (texts_of bytes) (meaning None T.items) printable in
-      let again : ReadsBack (texts_of bytes) (meaning None T.items) depth text = subst (λ ts. IsReadBack (texts_of bytes) ts text) T.value back distinct printable in
-      let P : IsPlain (texts_of bytes) text again.read = plain (meaning None T.items) depth text again in
-      record {
-        items = T.items;
-        source = record { tokens = w; lexed = lexed; read = T.source };
-        value = e ∙ ap (layout (texts_of bytes)) T.value;
-        pure = pure_printable (texts_of bytes) (meaning None T.items) printable;
-        read = again.read;
-        same = again.same;
-        reading = P;
-        only = λ others Q. one_plain (texts_of bytes) text again.read others P Q;
-      }
+  no_reading : HasNoItems w → HasNoReading bytes
+  no_reading none items S = none items (source_of items S)
 
-  no_reading : ((items : List FirstItem) → IsSource (texts_of bytes) w items → ⊥) → HasNoReading bytes
-  no_reading none items S = none items (subst (λ v. IsSource (texts_of bytes) v items) (same_tokens _ S.tokens w S.lexed lexed) S.read)
-
-  pub is_stop : (stop : Stop) → AreDistinct (texts_of bytes) → (stop ≡ Memory → ⊥) → IsStop (texts_of bytes) w stop → IsStopOf bytes stop
-  is_stop (Syntax span) distinct other S = record { tokens = w; lexed = lexed; stopped = S; none = no_reading (first_dead_none (texts_of bytes) w distinct known S.0 S.1.0) }
-  is_stop (TooDeep span) distinct other S = record { tokens = w; lexed = lexed; stopped = S; none = no_reading (too_deep_none (texts_of bytes) w distinct known S.0 S.1.0) }
-  is_stop Memory distinct other S = absurd (other refl)
+  is_stop : (stop : Stop) → (stop ≡ Memory → ⊥) → IsStop w stop → IsStopOf bytes stop
+  is_stop (Syntax span) other S = record { tokens = w; lexed = lexed; stopped = S; none = no_reading S.1 }
+  is_stop (TooDeep span) other S = record { tokens = w; lexed = lexed; stopped = S; none = no_reading S.1 }
+  is_stop (NotBuilt span) other S = record { tokens = w; lexed = lexed; stopped = S; none = no_reading S.1 }
+  is_stop Memory other S = absurd (other refl)
 
 -- ---- over a table that is that of the source's texts
 
 module _ (bytes : List ℕ) (names : List (List ℕ)) (table : names ≡ texts_of bytes) (w : List Token) (lexed : tokens_of C90 names bytes ≡ Ok w) where
-  pub known_there : AreKnown names w
-  known_there = subst (λ n. tokens_of C90 n bytes ≡ Ok w → AreKnown n w) (sym table) (known bytes w) lexed
+  lexed_so : tokens_of C90 (texts_of bytes) bytes ≡ Ok w
+  lexed_so = subst (λ n. tokens_of C90 n bytes ≡ Ok w) table lexed
 
-  abbrev Texts : List PlainItem → List ℕ → List (List ℕ) → Type 0
-  Texts written text n = tokens_of C90 n bytes ≡ Ok w → IsDistinct bytes_eq n → IsTranslation n w written → text ≡ layout n written → IsReadBack n written text → IsTextOf bytes text
+  written_so : (items : List Plain) → text_of_marks names (flat_map layout items) ≡ written bytes items
+  written_so items = ap (λ n. text_of_marks n (flat_map layout items)) table
 
-  pub is_text_there : (written : List PlainItem) (text : List ℕ) → Texts written text names
-  is_text_there written text = subst (Texts written text) (sym table) (λ l d t e r. is_text bytes w l written text d t e r)
+  is_text : (items : List Plain) (text : List ℕ) → IsTranslation w items → IsPrintedText names items text → IsTextOf bytes text
+  is_text items text T P =
+      let Q : IsPrintedText (texts_of bytes) items text = subst (λ n. IsPrintedText n items text) table P in
+      let R = T.source.read in
+      let plain : AreWrittenItems (texts_of bytes) items = all_written bytes w lexed_so ([] ∷ []) items 0 T.source.end T.source.after R in
+      record {
+        items = items;
+        reading = is_only bytes w lexed_so items T;
+        value = Q.value;
+        within = Q.within;
+        plain = plain;
+        tokens = Q.tokens plain;
+        after = T.source.after;
+        again = Q.again plain 2000 T.source.after (twice_low w ([] ∷ []) items 0 T.source.end T.source.after R) (all_settled w ([] ∷ []) items 0 T.source.end T.source.after R);
+      }
 
-  abbrev Stops : Stop → List (List ℕ) → Type 0
-  Stops stop n = tokens_of C90 n bytes ≡ Ok w → AreDistinct n → (stop ≡ Memory → ⊥) → IsStop n w stop → IsStopOf bytes stop
+  has_too_much : (items : List Plain) → IsTranslation w items → most_text_bytes < length (text_of_marks names (flat_map layout items)) → HasTooMuch bytes
+  has_too_much items T large = record { items = items; reading = is_only bytes w lexed_so items T; large = subst (λ t. most_text_bytes < length t) (written_so items) large }
 
-  pub is_stop_there : (stop : Stop) → Stops stop names
-  is_stop_there stop = subst (Stops stop) (sym table) (λ l d o s. is_stop bytes w l stop d o s)
+  as_printed : (items : List Plain) → IsTranslation w items → (found : Outcome) → IsPrinted names items found → IsOutcome bytes found
+  as_printed items T (Text text) P = is_text items text T P
+  as_printed items T TextTooLarge P = has_too_much items T P
+  as_printed items T (Lex at cause) P = absurd P
+  as_printed items T (Stopped stop) P = absurd P
+
+  pub printed_outcome : (items : List Plain) → IsTranslation w items → (o : Result Outcome Gone) → IfOk o (IsPrinted names items) → IfOk o (IsOutcome bytes)
+  printed_outcome items T (Ok found) P = as_printed items T found P
+  printed_outcome items T (Err e) P = tt
+
+  pub is_stop_there : (stop : Stop) → (stop ≡ Memory → ⊥) → IsStop w stop → IsStopOf bytes stop
+  is_stop_there stop other S = is_stop bytes w lexed_so stop other S
 
 -- an outcome that a stop gives
 abbrev Gives : List ℕ → Stop → Result Outcome Gone → Type 0

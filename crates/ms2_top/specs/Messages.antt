@@ -1,5 +1,5 @@
 -- The lines on standard error.
-use Rattle.std.specs.Prelude.{◌≡◌, ℕ, ◌⊎◌, List, [], ◌++◌, take, Option, IfSome, IsSomeAnd, Some, codes, decimal}
+use Rattle.std.specs.Prelude.{◌≡◌, ℕ, ◌⊎◌, List, [], ◌++◌, take, Option, IsSomeAnd, codes, decimal}
 use Rattle.io_edge.specs.Put.{Appends}
 use Rattle.c_tokens.specs.declared.lexical.LexCause.{LexCause}
 use Rattle.c_tokens.specs.declared.lexical.LexCause.TheVariants as cause
@@ -8,10 +8,11 @@ use Rattle.ms2_top.specs.declared.ending.Ending.{Ending}
 use Rattle.ms2_top.specs.declared.ending.Ending.TheVariants as ending
 use Rattle.ms2_top.specs.declared.ending.Refusal.{Refusal}
 use Rattle.ms2_top.specs.declared.ending.Reason.{Reason}
-use Rattle.ms2_top.specs.declared.ending.Reason.TheVariants.{Lex, Syntax, TooDeep}
+use Rattle.ms2_top.specs.declared.ending.Reason.TheVariants.{Lex, Syntax, TooDeep, NotBuilt}
 use Rattle.ms2_top.specs.declared.status.Status.{Status}
 use Rattle.ms2_top.specs.declared.status.Status.TheVariants as status
-use Rattle.ms2_top.specs.Endings.{IsRefusal}
+use Rattle.ms2_top.specs.Endings.{IsLimited, IsRefusal}
+use Rattle.ms2_top.specs.Runs.{AreBytes}
 
 -- ---- the lines
 
@@ -30,6 +31,9 @@ memory_line = codes "ms2: no memory\n"
 abbrev pub limit_line : List ℕ → List ℕ
 limit_line name = name ++ codes ": too large\n"
 
+abbrev pub text_limit_line : List ℕ
+text_limit_line = codes "ms2: text too large\n"
+
 abbrev pub cause_text : LexCause → List ℕ
 cause_text cause.StrayByte = codes "lex StrayByte"
 cause_text cause.OpenComment = codes "lex OpenComment"
@@ -46,6 +50,7 @@ abbrev pub reason_text : Reason → List ℕ
 reason_text (Lex cause) = cause_text cause
 reason_text Syntax = codes "syntax"
 reason_text TooDeep = codes "too deep"
+reason_text NotBuilt = codes "not built"
 
 -- the file, the texts of the line and the column, and the reason
 abbrev pub refusal_text : List ℕ → List ℕ → List ℕ → List ℕ → List ℕ
@@ -61,17 +66,22 @@ message name (ending.Refused refusal) = refusal_line name refusal.place refusal.
 message name ending.Read = read_line name
 message name ending.Write = write_line
 message name ending.Memory = memory_line
-message name ending.Limit = limit_line name
+message name ending.FileTooLarge = limit_line name
+message name ending.TextTooLarge = text_limit_line
 
 -- ---- the line of a status
 
 -- A line of a file that is refused: the bytes are those that the shelf tells, where it tells them.
 pub record IsRefusalLine (name : List ℕ) (told : Option (Option (List ℕ))) (line : List ℕ) : Type 0 where
   pub bytes : List ℕ
-  pub is_told : IfSome told (λ file. file ≡ Some bytes)
+  pub is_told : AreBytes told bytes
   pub refusal : Refusal
   pub refused : IsRefusal bytes refusal
   pub is_line : line ≡ refusal_line name refusal.place refusal.reason
+
+-- the line of a file that is too large, or of a text
+abbrev pub IsLimitLine : List ℕ → Option (Option (List ℕ)) → List ℕ → Type 0
+IsLimitLine name told line = ((line ≡ limit_line name) × IsLimited told ending.FileTooLarge) ⊎ ((line ≡ text_limit_line) × IsLimited told ending.TextTooLarge)
 
 -- The line of each status: `word` names the file, of which the shelf tells `told`. Done has none.
 abbrev pub IsLine : Option (List ℕ) → Option (Option (List ℕ)) → Status → List ℕ → Type 0
@@ -81,7 +91,7 @@ IsLine word told status.Usage line = line ≡ usage_line
 IsLine word told status.Read line = IsSomeAnd word (λ name. line ≡ read_line name)
 IsLine word told status.Write line = line ≡ write_line
 IsLine word told status.Memory line = line ≡ memory_line
-IsLine word told status.Limit line = IsSomeAnd word (λ name. line ≡ limit_line name)
+IsLine word told status.Limit line = IsSomeAnd word (λ name. IsLimitLine name told line)
 
 -- ---- what the sink gained
 

@@ -1,67 +1,80 @@
 -- What comes of the bytes of a source.
-use Rattle.std.specs.Prelude.{◌≡◌, ℕ, List, [], None, Ok}
-use Rattle.std.specs.List.{AllPass}
+use Rattle.std.specs.Prelude.{◌≡◌, ◌<◌, ◌≤◌, ◌*◌, ℕ, List, [], ◌∷◌, flat_map, map, length, Ok}
 use Rattle.c_tokens.specs.declared.token.Token.{Token}
-use Rattle.c_tokens.specs.declared.token.Shape.TheVariants.{End}
 use Rattle.c_tokens.specs.declared.lexical.Dialect.TheVariants.{C90}
 use Rattle.c_tokens.specs.declared.lexical.LexCause.{LexCause}
 use Rattle.c_tokens.specs.Tokens.{tokens_of, gained, bad}
-use Rattle.syntax_trees.specs.Measures.{is_pure_item}
-use Rattle.syntax_trees.specs.declared.plain.PlainItem.{PlainItem}
-use Rattle.first_trees.specs.declared.first.FirstItem.{FirstItem}
-use Rattle.c_grammar.specs.Reader.{shape_at}
-use Rattle.c_printer.specs.Layout.{layout}
-use Rattle.c_printer.specs.ReadBack.{SpellInTurn, AreSame}
+use Rattle.c_forms.specs.Forests.{Plain, forest}
+use Rattle.c_trees.specs.Counts.{high}
+use Rattle.scopes.specs.Events.{events, in_order}
+use Rattle.scopes.specs.Settling.{Scoped, settled}
+use Rattle.c_layout.specs.Layout.{layout}
+use Rattle.c_layout.specs.Spelled.{tokens as tokens_in}
+use Rattle.scope_tables.specs.Frames.{Frame}
+use Rattle.text_tokens.specs.Items.{AreWrittenItems}
+use Rattle.text_tokens.specs.Written.{HasTokens}
+use Rattle.item_printer.specs.ReadAgain.{IsReadAgain}
+use Rattle.c_text.specs.Text.{text as text_of_marks}
 use Rattle.expander.specs.declared.stop.Stop.{Stop}
-use Rattle.expander.specs.Meaning.{IsSource, IsStop, meaning}
+use Rattle.expander.specs.Meaning.{IsSource, IsStop}
 use Rattle.ms2_top.specs.declared.source.Outcome.{Outcome}
-use Rattle.ms2_top.specs.declared.source.Outcome.TheVariants.{Text, Lex, Stopped}
+use Rattle.ms2_top.specs.declared.source.Outcome.TheVariants.{Text, Lex, Stopped, TextTooLarge}
+
+-- the most bytes of a file, and of a text
+abbrev pub most_bytes : ℕ
+most_bytes = 4194304
+
+abbrev pub most_text_bytes : ℕ
+most_text_bytes = 67108864
 
 -- the texts of a source's words, constants and literals, in the order of first sight
 abbrev pub texts_of : List ℕ → List (List ℕ)
 texts_of bytes = gained C90 [] bytes
 
--- ---- plain C
-
--- The text is a list of tokens that spell these items in turn in the plain C grammar, in some depth. A word's
--- number is that of its text among `names`.
-pub record IsPlain (names : List (List ℕ)) (text : List ℕ) (written : List PlainItem) : Type 0 where
-  pub tokens : List Token
-  pub lexed : tokens_of C90 names text ≡ Ok tokens
-  pub depth : ℕ
-  pub last : ℕ
-  pub spelled : SpellInTurn depth tokens written 0 last
-  pub ends : shape_at tokens last ≡ End
-
 -- ---- a source and its text
 
 -- the bytes are a source with these items
-pub record IsSourceOf (bytes : List ℕ) (items : List FirstItem) : Type 0 where
+pub record IsSourceOf (bytes : List ℕ) (items : List Plain) : Type 0 where
   pub tokens : List Token
   pub lexed : tokens_of C90 (texts_of bytes) bytes ≡ Ok tokens
-  pub read : IsSource (texts_of bytes) tokens items
+  pub read : IsSource tokens items
 
--- The text is that of the items of plain C that the source's items stand for, which are free of calls and placeholders.
--- Its only reading in the plain C grammar is these items, spans aside.
-pub record IsTextOf (bytes text : List ℕ) : Type 0 where
-  pub items : List FirstItem
+-- the text of items, each in its layout
+abbrev pub written : List ℕ → List Plain → List ℕ
+written bytes items = text_of_marks (texts_of bytes) (flat_map layout items)
+
+-- the bytes are a source with these items, and with no others
+pub record IsOnly (bytes : List ℕ) (items : List Plain) : Type 0 where
   pub source : IsSourceOf bytes items
-  pub value : text ≡ layout (texts_of bytes) (meaning None items)
-  pub pure : AllPass is_pure_item (meaning None items)
-  pub read : List PlainItem
-  pub same : AreSame (meaning None items) read
-  pub reading : IsPlain (texts_of bytes) text read
-  pub only : (others : List PlainItem) → IsPlain (texts_of bytes) text others → others ≡ read
+  pub only : (others : List Plain) → IsSourceOf bytes others → others ≡ items
+
+-- The text is that of the items of the source, which have neither calls nor placeholders. Its tokens are those of the items, with the
+-- least parentheses, and spell these items again, spans aside, and no others, within 2,000 levels.
+pub record IsTextOf (bytes text : List ℕ) : Type 0 where
+  pub items : List Plain
+  pub reading : IsOnly bytes items
+  pub value : text ≡ written bytes items
+  pub within : length text ≤ most_text_bytes
+  pub plain : AreWrittenItems (texts_of bytes) items
+  pub tokens : HasTokens (texts_of bytes) text (flat_map tokens_in items)
+  pub after : List Frame
+  pub again : IsReadAgain (texts_of bytes) text 2000 items after
+
+-- The text of the items of the source has too many bytes.
+pub record HasTooMuch (bytes : List ℕ) : Type 0 where
+  pub items : List Plain
+  pub reading : IsOnly bytes items
+  pub large : most_text_bytes < length (written bytes items)
 
 -- No items are a reading of the bytes.
 abbrev pub HasNoReading : List ℕ → Type 0
-HasNoReading bytes = (items : List FirstItem) → IsSourceOf bytes items → ⊥
+HasNoReading bytes = (items : List Plain) → IsSourceOf bytes items → ⊥
 
 -- the tokens are not all items
 pub record IsStopOf (bytes : List ℕ) (stop : Stop) : Type 0 where
   pub tokens : List Token
   pub lexed : tokens_of C90 (texts_of bytes) bytes ≡ Ok tokens
-  pub stopped : IsStop (texts_of bytes) tokens stop
+  pub stopped : IsStop tokens stop
   pub none : HasNoReading bytes
 
 -- the bytes have no tokens: they are spoiled at a place, for a cause
@@ -73,3 +86,18 @@ abbrev pub IsOutcome : List ℕ → Outcome → Type 0
 IsOutcome bytes (Text text) = IsTextOf bytes text
 IsOutcome bytes (Lex at cause) = IsNoToken bytes at cause
 IsOutcome bytes (Stopped stop) = IsStopOf bytes stop
+IsOutcome bytes TextTooLarge = HasTooMuch bytes
+
+-- ---- parts of the code
+
+-- what printing items says of their text
+pub record IsPrintedText (names : List (List ℕ)) (items : List Plain) (text : List ℕ) : Type 0 where
+  pub value : text ≡ text_of_marks names (flat_map layout items)
+  pub within : length text ≤ most_text_bytes
+  pub tokens : AreWrittenItems names items → HasTokens names text (flat_map tokens_in items)
+  pub again : AreWrittenItems names items → (depth : ℕ) (after : List Frame) → 2 * high (forest items) ≤ depth → settled (in_order (map events items)) ([] ∷ []) ≡ Scoped after → IsReadAgain names text depth items after
+
+abbrev pub IsPrinted : List (List ℕ) → List Plain → Outcome → Type 0
+IsPrinted names items (Text text) = IsPrintedText names items text
+IsPrinted names items TextTooLarge = most_text_bytes < length (text_of_marks names (flat_map layout items))
+IsPrinted names items _ = ⊥

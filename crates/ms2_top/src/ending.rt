@@ -14,7 +14,10 @@ pub enum Ending {
     Read,
     Write,
     Memory,
-    Limit,
+    /// the file is too large
+    FileTooLarge,
+    /// the text is too large
+    TextTooLarge,
 }
 
 /// Where a source is refused, and why.
@@ -33,6 +36,8 @@ pub enum Reason {
     Syntax,
     /// each item that has that token there is too deep
     TooDeep,
+    /// a definition begins there
+    NotBuilt,
 }
 
 impl Ending {
@@ -46,7 +51,7 @@ impl Ending {
             Ending::Read => Status::Read,
             Ending::Write => Status::Write,
             Ending::Memory => Status::Memory,
-            Ending::Limit => Status::Limit,
+            Ending::FileTooLarge | Ending::TextTooLarge => Status::Limit,
         }
     }
 }

@@ -33,7 +33,8 @@ pub fn send_message<E: Sink>(err: &mut E, name: &str, ending: &Ending) -> Result
         Ending::Read => put_pieces(err, &["ms2: cannot read ", name, "\n"]),
         Ending::Write => put_all(err, b"ms2: cannot write\n"),
         Ending::Memory => put_all(err, b"ms2: no memory\n"),
-        Ending::Limit => put_pieces(err, &[name, ": too large\n"]),
+        Ending::FileTooLarge => put_pieces(err, &[name, ": too large\n"]),
+        Ending::TextTooLarge => put_all(err, b"ms2: text too large\n"),
     }
 }
 
@@ -77,6 +78,7 @@ fn reason_text(reason: Reason) -> &'static str
         Reason::Lex(cause) => cause_text(cause),
         Reason::Syntax => "syntax",
         Reason::TooDeep => "too deep",
+        Reason::NotBuilt => "not built",
     }
 }
 

@@ -4,10 +4,10 @@ ghost use Rattle.std.specs.Prelude.{◌≡◌, ◌≢◌, ◌≤◌, ◌⊎◌, 
 ghost use Rattle.io_edge.specs.Faults.{Rose};
 ghost use Rattle.io_edge.specs.Files.{file_at};
 ghost use Rattle.ms2_top.specs.Command.{file_of};
-ghost use Rattle.ms2_top.specs.Endings.{status_of, IfRefused, IsRefusal, IsRefusedAt, IsStopEnding};
+ghost use Rattle.ms2_top.specs.Endings.{status_of, IfRefused, IsLimited, IsRefusal, IsRefusedAt, IsStopEnding};
 ghost use Rattle.ms2_top.specs.Messages.{Says};
 ghost use Rattle.ms2_top.specs.Outcomes.{IsStopOf};
-ghost use Rattle.ms2_top.specs.Runs.{IsRun, IsAnswer, IsSettled, told, KeepsUnless};
+ghost use Rattle.ms2_top.specs.Runs.{AreBytes, IsRun, IsAnswer, IsSettled, told, KeepsUnless};
 
 use crate::command::file_of as named_file;
 use crate::ending::{Ending, Reason, Refusal};
@@ -20,7 +20,7 @@ use io_edge::{ReadStop, Shelf, Sink, WriteFault, put_all, read_source};
 use std::alloc::Global;
 
 /// The most bytes that a file may have.
-pub const MAX_FILE_BYTES: usize = 1024;
+pub const MAX_FILE_BYTES: usize = 4_194_304;
 
 /// Reads the file that the words name, and writes to `out` what it stands for. A line that says why this was not done
 /// goes to `err`; a fault of `err` changes no status.
@@ -34,7 +34,7 @@ pub fn run<F: Shelf, O: Sink, E: Sink>(
     // What each status says of the words, the devices and the file.
     ensures usage { (result ≡ Status.Usage) ↔ (file_of (map string_bytes words.now) ≡ None) }
     ensures read { result ≡ Status.Read → Rose (F.faults shelf.old) (F.faults shelf.new) ⊎ (told (F.files shelf.old) (file_of (map string_bytes words.now)) ≡ Some None) }
-    ensures answer { IfSome (told (F.files shelf.old) (file_of (map string_bytes words.now))) (λ file. IsRun MAX_FILE_BYTES file (O.held out.old) (O.held out.new) result) }
+    ensures answer { IsRun (told (F.files shelf.old) (file_of (map string_bytes words.now))) (O.held out.old) (O.held out.new) result }
     ensures write { result ≡ Status.Write → Rose (O.faults out.old) (O.faults out.new) }
 
     // Where the file is told and within the limit, and no count rose, the status is the one that the file has, or Memory.
@@ -67,7 +67,7 @@ fn run_over<F: Shelf, O: Sink, E: Sink>(
 ) -> Status
     ensures command { result ≢ Status.Usage }
     ensures read { result ≡ Status.Read → Rose (F.faults shelf.old) (F.faults shelf.new) ⊎ (file_at (F.files shelf.old) name.now ≡ Some None) }
-    ensures answer { IfSome (file_at (F.files shelf.old) name.now) (λ file. IsRun MAX_FILE_BYTES file (O.held out.old) (O.held out.new) result) }
+    ensures answer { IsRun (file_at (F.files shelf.old) name.now) (O.held out.old) (O.held out.new) result }
     ensures write { result ≡ Status.Write → Rose (O.faults out.old) (O.faults out.new) }
     ensures kept { KeepsUnless result out.old out.new }
     ensures message { Says (Some name.now) (file_at (F.files shelf.old) name.now) result
@@ -82,15 +82,16 @@ fn run_over<F: Shelf, O: Sink, E: Sink>(
 /// Reads the file of this name, and writes what it stands for.
 fn respond<F: Shelf, O: Sink>(alloc: Global, name: &str, shelf: &mut F, out: &mut O) -> Ending
     ensures read { result ≡ Ending.Read → Rose (F.faults shelf.old) (F.faults shelf.new) ⊎ (file_at (F.files shelf.old) name.now ≡ Some None) }
-    ensures answer { IfSome (file_at (F.files shelf.old) name.now) (λ file. IsRun MAX_FILE_BYTES file (O.held out.old) (O.held out.new) (status_of result)) }
+    ensures answer { IsRun (file_at (F.files shelf.old) name.now) (O.held out.old) (O.held out.new) (status_of result) }
     ensures write { result ≡ Ending.Write → Rose (O.faults out.old) (O.faults out.new) }
     ensures kept { KeepsUnless (status_of result) out.old out.new }
-    ensures refused { IfRefused result (λ refusal. (bytes : List ℕ) × (IfSome (file_at (F.files shelf.old) name.now) (λ file. file ≡ Some bytes) × IsRefusal bytes refusal)) }
+    ensures refused { IfRefused result (λ refusal. (bytes : List ℕ) × (AreBytes (file_at (F.files shelf.old) name.now) bytes × IsRefusal bytes refusal)) }
+    ensures limited { IsLimited (file_at (F.files shelf.old) name.now) result }
 {
     let bytes = match read_source(alloc, shelf, name, MAX_FILE_BYTES) {
         Ok(bytes) => bytes,
         Err(ReadStop::Absent | ReadStop::ReadFault) => return Ending::Read,
-        Err(ReadStop::TooLarge) => return Ending::Limit,
+        Err(ReadStop::TooLarge) => return Ending::FileTooLarge,
         Err(ReadStop::Memory) => return Ending::Memory,
     };
     write_text(alloc, &bytes, out)
@@ -103,6 +104,7 @@ fn write_text<O: Sink>(alloc: Global, bytes: &[u8], out: &mut O) -> Ending
     ensures write { result ≡ Ending.Write → Rose (O.faults out.old) (O.faults out.new) }
     ensures kept { KeepsUnless (status_of result) out.old out.new }
     ensures refused { IfRefused result (IsRefusal bytes.now) }
+    ensures limited { result ≢ Ending.FileTooLarge }
 {
     match outcome_of(alloc, bytes) {
         Ok(Outcome::Text(text)) => match put_all(out, text.items()) {
@@ -113,6 +115,7 @@ fn write_text<O: Sink>(alloc: Global, bytes: &[u8], out: &mut O) -> Ending
             Ending::Refused(refusal_at(bytes, at, Reason::Lex(cause)))
         }
         Ok(Outcome::Stopped(stop)) => stopped(bytes, stop),
+        Ok(Outcome::TextTooLarge) => Ending::TextTooLarge,
         Err(Memory) => Ending::Memory,
     }
 }
@@ -129,6 +132,9 @@ fn stopped(bytes: &[u8], stop: Stop) -> Ending
         }
         Stop::TooDeep(Span { start, .. }) => {
             Ending::Refused(refusal_at(bytes, start as usize, Reason::TooDeep))
+        }
+        Stop::NotBuilt(Span { start, .. }) => {
+            Ending::Refused(refusal_at(bytes, start as usize, Reason::NotBuilt))
         }
         Stop::Memory => Ending::Memory,
     }

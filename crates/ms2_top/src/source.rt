@@ -3,25 +3,29 @@
 ghost use Rattle.std.specs.Prelude.{◌≡◌, ◌≢◌, ◌≤◌, length, IfOk, Ok};
 ghost use Rattle.c_tokens.specs.declared.lexical.Dialect.TheVariants.{C90};
 ghost use Rattle.c_tokens.specs.Tokens.{tokens_of};
-ghost use Rattle.ms2_top.specs.Outcomes.{IsOutcome, texts_of};
+ghost use Rattle.ms2_top.specs.Outcomes.{IsOutcome, IsPrinted, texts_of};
 
 use c_lexer::{LexStop, lex};
-use c_printer::print;
+use c_text::TextStop;
 use c_tokens::{Bytes, Dialect, LexCause, Memory, Token, Words};
+use checked_trees::Item;
 use expander::{Stop, feed};
+use item_printer::print;
 use std::alloc::Global;
 
-/// What comes of a source: its text, the byte at which its tokens are spoiled, with the cause, or why it has no reading.
+/// What comes of a source: its text, the byte at which its tokens are spoiled, with the cause, why it has no reading, or
+/// that its text has too many bytes.
 #[derive(Debug, Drop)]
 pub enum Outcome {
     Text(Bytes),
     Lex { at: usize, cause: LexCause },
     Stopped(Stop),
+    TextTooLarge,
 }
 
 /// What comes of the bytes of a file.
 pub fn outcome_of(alloc: Global, bytes: &[u8]) -> Result<Outcome, Memory>
-    requires { length bytes.now ≤ 1024 }
+    requires { length bytes.now ≤ 4194304 }
     ensures { IfOk result (λ found. IsOutcome bytes.now found) }
 {
     let mut words = Words::new(alloc);
@@ -41,17 +45,23 @@ fn translate(
 ) -> Result<Outcome, Memory>
     requires table { words.now ≡ texts_of bytes.now }
     requires lexed { tokens_of C90 words.now bytes.now ≡ Ok tokens.now }
-    requires size { length bytes.now ≤ 1024 }
+    requires size { length bytes.now ≤ 4194304 }
     ensures { IfOk result (λ found. IsOutcome bytes.now found) }
 {
-    // The table says that its texts are distinct.
-    let _count = words.len();
-    match feed(alloc, tokens, words) {
-        Ok(written) => {
-            let text = print(alloc, written.as_slice(), words)?;
-            Ok(Outcome::Text(Bytes::from_vec(text)))
-        }
+    match feed(alloc, tokens) {
+        Ok(written) => printed(alloc, written.as_slice(), words),
         Err(stop) => stopped(stop),
+    }
+}
+
+/// The text of items, or that it is too large.
+fn printed(alloc: Global, items: &[Item], words: &Words) -> Result<Outcome, Memory>
+    ensures { IfOk result (λ found. IsPrinted words.now items.now found) }
+{
+    match print(alloc, items, words) {
+        Ok(text) => Ok(Outcome::Text(Bytes::from_vec(text))),
+        Err(TextStop::TooLarge) => Ok(Outcome::TextTooLarge),
+        Err(TextStop::Memory) => Err(Memory),
     }
 }
 
@@ -62,6 +72,7 @@ fn stopped(stop: Stop) -> Result<Outcome, Memory>
     match stop {
         Stop::Syntax(_) => Ok(Outcome::Stopped(stop)),
         Stop::TooDeep(_) => Ok(Outcome::Stopped(stop)),
+        Stop::NotBuilt(_) => Ok(Outcome::Stopped(stop)),
         Stop::Memory => Err(Memory),
     }
 }

@@ -18,7 +18,7 @@ pub enum Status {
     Write,
     /// there was no memory
     Memory,
-    /// the file is too large
+    /// the file or the text is too large
     Limit,
 }
 

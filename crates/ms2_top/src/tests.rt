@@ -1,119 +1,193 @@
 //! What no clause says: that runs succeed where memory is ample, and what they write for worked sources.
 
-use crate::program::MAX_FILE_BYTES;
-use crate::{Outcome, Status, outcome_of, run};
+use crate::{Status, run};
 use c_tokens::List;
-use expander::Stop;
 use io_edge::{MemoryShelf, MemorySink, Sink, SureSink};
 use std::alloc::Global;
 use std::test::Fail;
 
 /// Sources, each with the text that is written for it.
-static WRITTEN: [(&str, &str); 13] = [
+static WRITTEN: [(&str, &str); 19] = [
     ("int x = 1;", "int x = 1;\n"),
     ("", ""),
     (" \t\r\n", ""),
-    ("int x = 0xF+1;", "int x = 0xF + 1;\n"),
     (
-        "# 1 \"a.c\"\nint x /* \x7f */ = 1;\n#line 7",
-        "int x = 1;\n",
+        "typedef int T; void f(void) { int T; T * x; }",
+        "typedef int T;\nvoid f(void) {\n    int T;\n    T * x;\n}\n",
     ),
+    (
+        "typedef int T; void f(void) { T * x; }",
+        "typedef int T;\nvoid f(void) {\n    T *x;\n}\n",
+    ),
+    (
+        "typedef int T; int f(int (T));",
+        "typedef int T;\nint f(int(T));\n",
+    ),
+    (
+        "typedef int T; void f(void) { T : g(); }",
+        "typedef int T;\nvoid f(void) {\n    T: g();\n}\n",
+    ),
+    ("int x = 0xF+1;", "int x = 0xF + 1;\n"),
+    ("int a = sizeof (int) - 1;", "int a = sizeof (int) - 1;\n"),
+    ("# 1 \"a.c\"\nint x;\n#line 7", "int x;\n"),
+    (
+        "main(argc, argv) char **argv; { return argc ? 0 : 1; }\nstruct node { struct node *next; int key : 4; } ;\nint sum(struct node *p) { int s = 0; for (; p; p = p->next) s += p->key; return s; }\n",
+        "main(argc, argv)\n    char **argv;\n{\n    return argc ? 0 : 1;\n}\nstruct node { struct node *next; int key : 4; };\nint sum(struct node *p) {\n    int s = 0;\n    for (; p; p = p->next)\n        s += p->key;\n    return s;\n}\n",
+    ),
+    (
+        "int x = (a, b) * -(-c) - (d - e);",
+        "int x = (a, b) * - -c - (d - e);\n",
+    ),
+    ("int z = (a = b) = c;", "int z = (a = b) = c;\n"),
+    (
+        "void f(void) { if (a) { if (b) x(); } else y(); }",
+        "void f(void) {\n    if (a) {\n        if (b)\n            x();\n    }\n    else\n        y();\n}\n",
+    ),
+    (
+        "void f(void) { if (a) if (b) x(); else y(); }",
+        "void f(void) {\n    if (a)\n        if (b)\n            x();\n        else\n            y();\n}\n",
+    ),
+    ("int a = twice(1);", "int a = twice(1);\n"),
     ("int a=b;int c=0 ;", "int a = b;\nint c = 0;\n"),
     ("int a = ((b)) + (c + d);", "int a = b + (c + d);\n"),
     (
-        "int a = (b * c) + d * (e * f);",
-        "int a = b * c + d * (e * f);\n",
+        "char *s = \"b\"  \"\\x41\";",
+        "char *s = \"b\" \"\\x41\";\n",
     ),
-    ("int a = (b + c) * 10;", "int a = (b + c) * 10;\n"),
-    ("@syntax @exp one @{ ( $$exp::x ) @} { return `(one); }", ""),
-    (
-        "@syntax @exp twice @{ ( $$exp::x ) @} { return `($x + $x); }\nint a = twice(b * 2);\nint c = twice(1 + 2) * 3;\n",
-        "int a = b * 2 + b * 2;\nint c = (1 + 2 + (1 + 2)) * 3;\n",
-    ),
-    (
-        "@syntax @exp twice @{ ( $$exp::x ) @} { return `($x + $x); }\nint a = x + twice((y));",
-        "int a = x + (y + y);\n",
-    ),
-    (
-        "@syntax @exp twice @{ ( $$exp::x ) @} { return `($x + $x); }\nint a = 2 * twice(exp);",
-        "int a = 2 * (exp + exp);\n",
-    ),
-];
-
-/// Sources that have no reading.
-static REFUSED: [&str; 12] = [
-    "int a = twice(1);",
-    "int a = 1; b",
-    "int a = b ++ c;",
-    "int a = 1; /* open",
-    "int a = \"b\";",
-    "int a = 1; @",
-    "\\",
-    "@syntax @exp m @{ ( $$exp::x ) @} { return `($x",
-    "@syntax @exp twice @{ ( $$exp::x ) @} { return `($x + $x); }\nint a = twice;",
-    "@syntax @exp twice @{ ( $$exp::x ) @} { return `($x + $x); }\nint a = twice();",
-    "@syntax @exp twice @{ ( $$exp::x ) @} { return `($x + $x); }\nint twice = 1;",
-    "@syntax @exp twice @{ ( $$exp::x ) @} { return `($x + $x); }\nint a = 1; int b = twice(a;",
-];
-
-/// Sources, each with the place of its first wrong token.
-static WRONG: [(&str, u32); 10] = [
-    ("int a = 1; ?", 11),
-    ("int a = 1", 9),
-    ("int = 1;", 4),
-    ("int a = $x;", 8),
-    ("int a = (b c);", 11),
-    ("int a = b * ;", 12),
-    ("@syntax @exp m @{ ( $$exp::x ) @} { return `($y); }", 46),
-    (
-        "@syntax @exp m @{ ( $$exp::x ) @} { return `(0); }\n@syntax @exp m @{ ( $$exp::x ) @} { return `(0); }\n",
-        51,
-    ),
-    (
-        "@syntax @exp m @{ ( $$exp::x ) @} { return `(0); }\nint a = m(m(1));",
-        61,
-    ),
-    ("@syntax @exp m @{ ( $$num::x ) @} { return `(0); }", 22),
 ];
 
 /// Sources that are refused, each with its line.
-static LINES: [(&str, &str); 9] = [
+static LINES: [(&str, &str); 21] = [
+    ("int f(int (T));", "a.c:1:12: syntax\n"),
+    ("int x = 0xE+1;", "a.c:1:9: lex BadNumber\n"),
+    ("int x; /* open", "a.c:1:8: lex OpenComment\n"),
+    ("int x = \"a\\q\";", "a.c:1:11: lex BadEscape\n"),
+    ("#pragma pack(1)", "a.c:1:1: lex Directive\n"),
+    ("int a = 1;\n \x7f", "a.c:2:2: lex StrayByte\n"),
+    ("int z = a + b = c;", "a.c:1:15: syntax\n"),
+    ("int x = (a +;", "a.c:1:13: syntax\n"),
+    ("void f(void) { if (a) else; }", "a.c:1:23: syntax\n"),
+    ("x y;", "a.c:1:3: syntax\n"),
+    ("int x = $y;", "a.c:1:9: syntax\n"),
+    ("@param", "a.c:1:1: syntax\n"),
     ("int a = 1; ?", "a.c:1:12: syntax\n"),
     ("int a = 1", "a.c:1:10: syntax\n"),
     ("int a = 1;\r\n\nint b = 2\n;;", "a.c:4:2: syntax\n"),
-    ("int x; /* open", "a.c:1:8: lex OpenComment\n"),
-    ("#pragma pack(1)", "a.c:1:1: lex Directive\n"),
-    ("int x = 0xE+1;", "a.c:1:9: lex BadNumber\n"),
-    ("int x = \"a\\q\";", "a.c:1:11: lex BadEscape\n"),
-    ("int a = 1;\n \x7f", "a.c:2:2: lex StrayByte\n"),
+    ("int = 1;", "a.c:1:5: syntax\n"),
     (
-        "@syntax @exp one @{ ( $$exp::x ) @} { return `(0); }\n@syntax @exp one @{ ( $$exp::x ) @} { return `(0); }",
-        "a.c:2:1: syntax\n",
+        "void f(void) { unless (a || b) g(); }",
+        "a.c:1:32: syntax\n",
     ),
+    (
+        "int x;\n@syntax @exp one @{ ( ) @} { return `(1); }",
+        "a.c:2:1: not built\n",
+    ),
+    ("int x;\n  @meta int n = 1 / 0;", "a.c:2:3: not built\n"),
+    ("int x @syntax", "a.c:1:7: syntax\n"),
+    ("@syntax", "a.c:1:1: not built\n"),
 ];
 
-/// Runs over one file `a.c`, from which seven bytes at most are read at a time, with these words.
-fn status_of(
-    alloc: Global,
-    words: &[&str],
-    source: &[u8],
-    out: &mut MemorySink,
-) -> Result<Status, Fail> {
-    let mut shelf = MemoryShelf::new(alloc, 7, List::from_vec(Vec::new(alloc)));
+/// Calls of the shelf or sends that fail, by their number from 1 on, and how a run over `int x = 1;` then ends.
+static READ_FAULTS: [(u64, Status); 6] = [
+    (1, Status::Read),
+    (2, Status::Read),
+    (3, Status::Read),
+    (4, Status::Read),
+    (5, Status::Read),
+    (6, Status::Done),
+];
+
+static WRITE_FAULTS: [(u64, &str); 3] = [(1, ""), (2, "int "), (3, "int x = ")];
+
+/// A source with a byte many times in a row, the line of its run, and the length of its text.
+struct Deep {
+    byte: u8,
+    count: usize,
+    middle: &'static str,
+    closing: u8,
+    closing_count: usize,
+    line: &'static str,
+    length: usize,
+}
+
+static DEEP: [Deep; 6] = [
+    Deep {
+        byte: b'(',
+        count: 1000,
+        middle: "1",
+        closing: b')',
+        closing_count: 1000,
+        line: "",
+        length: 11,
+    },
+    Deep {
+        byte: b'(',
+        count: 1001,
+        middle: "1",
+        closing: b')',
+        closing_count: 1001,
+        line: "a.c:1:1009: too deep\n",
+        length: 0,
+    },
+    Deep {
+        byte: b'!',
+        count: 1000,
+        middle: "a",
+        closing: b' ',
+        closing_count: 0,
+        line: "",
+        length: 1011,
+    },
+    Deep {
+        byte: b'!',
+        count: 1001,
+        middle: "a",
+        closing: b' ',
+        closing_count: 0,
+        line: "a.c:1:1009: too deep\n",
+        length: 0,
+    },
+    Deep {
+        byte: b'(',
+        count: 1000,
+        middle: "",
+        closing: b' ',
+        closing_count: 0,
+        line: "a.c:1:1009: syntax\n",
+        length: 0,
+    },
+    Deep {
+        byte: b'(',
+        count: 1001,
+        middle: "",
+        closing: b' ',
+        closing_count: 0,
+        line: "a.c:1:1009: too deep\n",
+        length: 0,
+    },
+];
+
+/// A shelf with one file `a.c`.
+fn shelf_of(alloc: Global, source: &[u8]) -> Result<MemoryShelf, Fail> {
+    let mut shelf = MemoryShelf::new(alloc, 4096, List::from_vec(Vec::new(alloc)));
     shelf.add_file("a.c", source)?;
-    status_over(alloc, words, &mut shelf, out)
+    Ok(shelf)
 }
 
-fn status_over(
-    alloc: Global,
-    words: &[&str],
-    shelf: &mut MemoryShelf,
-    out: &mut MemorySink,
-) -> Result<Status, Fail> {
-    answer_over(alloc, words, shelf, out, &mut SureSink::new())
+/// The same, where four bytes at most are read at a time and the call of this number fails.
+fn failing_shelf(alloc: Global, failing: u64, source: &[u8]) -> Result<MemoryShelf, Fail> {
+    let mut shelf = MemoryShelf::new(alloc, 4, List::from_vec([failing].to_vec(alloc)?));
+    shelf.add_file("a.c", source)?;
+    Ok(shelf)
 }
 
-fn answer_over<E: Sink>(
+/// A sink that takes four bytes at a time and fails at its send of this number.
+fn sink(alloc: Global, failing: u64) -> Result<MemorySink, Fail> {
+    let failing = List::from_vec([failing].to_vec(alloc)?);
+    Ok(MemorySink::new(alloc, 4096, 4, failing)?)
+}
+
+fn run_with<E: Sink>(
     alloc: Global,
     words: &[&str],
     shelf: &mut MemoryShelf,
@@ -128,159 +202,35 @@ fn answer_over<E: Sink>(
 }
 
 /// Runs over one file `a.c` that holds this.
-fn over_file(
+fn run_over<E: Sink>(
     alloc: Global,
     source: &[u8],
     out: &mut MemorySink,
-    err: &mut MemorySink,
+    err: &mut E,
 ) -> Result<Status, Fail> {
-    let mut shelf = MemoryShelf::new(alloc, 7, List::from_vec(Vec::new(alloc)));
-    shelf.add_file("a.c", source)?;
-    answer_over(alloc, &["a.c"], &mut shelf, out, err)
+    let mut shelf = shelf_of(alloc, source)?;
+    run_with(alloc, &["a.c"], &mut shelf, out, err)
 }
 
-/// A sink that takes four bytes at a time and fails at its sends of these numbers.
-fn sink(alloc: Global, failing: &[u64]) -> Result<MemorySink, Fail> {
-    let failing = List::from_vec(failing.to_vec(alloc)?);
-    Ok(MemorySink::new(alloc, 4096, 4, failing)?)
+/// Whether this is the text of a source.
+fn is_text(alloc: Global, source: &[u8], text: &[u8]) -> Result<bool, Fail> {
+    let mut out = sink(alloc, 0)?;
+    let status = run_over(alloc, source, &mut out, &mut SureSink::new())?;
+    Ok(status == Status::Done && out.held() == text)
 }
 
-#[test]
-fn writes_what_items_stand_for(rt: HostRuntime) -> Result<(), Fail> {
-    for (source, want) in &WRITTEN {
-        let mut out = sink(rt.alloc(), &[])?;
-        let status = status_of(rt.alloc(), &["a.c"], source.as_bytes(), &mut out)?;
-        assert_eq!(rt; status, Status::Done);
-        assert_eq!(rt; out.held(), want.as_bytes());
-    }
-    Ok(())
+/// The length of the text of a source.
+fn length_of(alloc: Global, source: &[u8]) -> Result<usize, Fail> {
+    let mut out = sink(alloc, 0)?;
+    let _status = run_over(alloc, source, &mut out, &mut SureSink::new())?;
+    Ok(out.held().len())
 }
 
-#[test]
-fn refuses_what_has_no_reading(rt: HostRuntime) -> Result<(), Fail> {
-    for source in &REFUSED {
-        let mut out = sink(rt.alloc(), &[])?;
-        let status = status_of(rt.alloc(), &["a.c"], source.as_bytes(), &mut out)?;
-        assert_eq!(rt; status, Status::Refused);
-        assert_eq!(rt; out.held(), b"".as_slice());
-    }
-    Ok(())
-}
-
-/// The place in bytes of the token that shows why a source is refused, of one that is too deep past a million.
-fn refused_at(alloc: Global, source: &[u8]) -> Result<u32, Fail> {
-    if source.len() > MAX_FILE_BYTES {
-        return Err(Fail::new("too large"));
-    }
-    match outcome_of(alloc, source)? {
-        Outcome::Stopped(Stop::Syntax(span)) => Ok(span.start),
-        Outcome::Stopped(Stop::TooDeep(span)) => Ok(span.start.wrapping_add(1_000_000)),
-        _ => Err(Fail::new("no refusal")),
-    }
-}
-
-#[test]
-fn names_the_first_wrong_token(rt: HostRuntime) -> Result<(), Fail> {
-    for (source, want) in &WRONG {
-        assert_eq!(rt; refused_at(rt.alloc(), source.as_bytes())?, *want);
-    }
-
-    // A thousand pairs of parentheses are the most.
-    let mut deep = b"int a = ".to_vec(rt.alloc())?;
-    for _ in 0..1001 {
-        deep.push(b'(')?;
-    }
-    assert_eq!(rt; refused_at(rt.alloc(), &deep)?, 1_001_008);
-    Ok(())
-}
-
-#[test]
-fn answers_for_words(rt: HostRuntime) -> Result<(), Fail> {
-    let alloc = rt.alloc();
-    let mut out = sink(alloc, &[])?;
-    assert_eq!(rt; status_of(alloc, &[], b"", &mut out)?, Status::Usage);
-    assert_eq!(rt;
-        status_of(alloc, &["a.c", "a.c"], b"", &mut out)?,
-        Status::Usage
-    );
-    assert_eq!(rt;
-        status_of(alloc, &["--help"], b"", &mut out)?,
-        Status::Usage
-    );
-    assert_eq!(rt; status_of(alloc, &["-"], b"", &mut out)?, Status::Read);
-    assert_eq!(rt; status_of(alloc, &["none.c"], b"", &mut out)?, Status::Read);
-    assert_eq!(rt; Status::Read.code(), 4);
-    assert_eq!(rt; out.held(), b"".as_slice());
-    Ok(())
-}
-
-#[test]
-fn answers_for_sizes(rt: HostRuntime) -> Result<(), Fail> {
-    let alloc = rt.alloc();
-    let mut source = b"int x = 1;".to_vec(alloc)?;
-    for _ in 0..1014 {
-        source.push(b' ')?;
-    }
-    let mut out = sink(alloc, &[])?;
-    assert_eq!(rt;
-        status_of(alloc, &["a.c"], &source, &mut out)?,
-        Status::Done
-    );
-    assert_eq!(rt; out.held(), b"int x = 1;\n".as_slice());
-    source.push(b' ')?;
-    assert_eq!(rt;
-        status_of(alloc, &["a.c"], &source, &mut out)?,
-        Status::Limit
-    );
-    Ok(())
-}
-
-#[test]
-fn answers_for_faults(rt: HostRuntime) -> Result<(), Fail> {
-    let alloc = rt.alloc();
-    let mut out = sink(alloc, &[3])?;
-    let mut err = sink(alloc, &[])?;
-    assert_eq!(rt;
-        over_file(alloc, b"int x = 1;", &mut out, &mut err)?,
-        Status::Write
-    );
-    assert_eq!(rt; out.held(), b"int x = ".as_slice());
-    assert_eq!(rt; err.held(), b"ms2: cannot write\n".as_slice());
-
-    // The second call of the shelf, which fails, is the first read.
-    let mut shelf = MemoryShelf::new(alloc, 7, List::from_vec([2].to_vec(alloc)?));
-    shelf.add_file("a.c", b"int x = 1;")?;
-    let mut out = sink(alloc, &[])?;
-    assert_eq!(rt;
-        status_over(alloc, &["a.c"], &mut shelf, &mut out)?,
-        Status::Read
-    );
-    assert_eq!(rt; out.held(), b"".as_slice());
-    Ok(())
-}
-
-/// Runs over one file `a.c`, with the line of the run in `err`.
-fn line_of(
-    alloc: Global,
-    words: &[&str],
-    source: &[u8],
-    err: &mut MemorySink,
-) -> Result<Status, Fail> {
-    let mut shelf = MemoryShelf::new(alloc, 7, List::from_vec(Vec::new(alloc)));
-    shelf.add_file("a.c", source)?;
-    answer_over(alloc, words, &mut shelf, &mut sink(alloc, &[])?, err)
-}
-
-/// The status of a run over one file `a.c` where this is what `err` holds then.
-fn status_with_line(
-    alloc: Global,
-    words: &[&str],
-    source: &[u8],
-    line: &str,
-) -> Result<Option<Status>, Fail> {
-    let mut err = sink(alloc, &[])?;
-    let status = line_of(alloc, words, source, &mut err)?;
-    if err.held() == line.as_bytes() {
+/// The status of a source, if this is the line of its run.
+fn status_with_line(alloc: Global, source: &[u8], line: &[u8]) -> Result<Option<Status>, Fail> {
+    let mut err = sink(alloc, 0)?;
+    let status = run_over(alloc, source, &mut sink(alloc, 0)?, &mut err)?;
+    if err.held() == line {
         Ok(Some(status))
     } else {
         Ok(None)
@@ -288,38 +238,157 @@ fn status_with_line(
 }
 
 #[test]
-fn says_where_and_why(rt: HostRuntime) -> Result<(), Fail> {
-    for (source, line) in &LINES {
-        let status = status_with_line(rt.alloc(), &["a.c"], source.as_bytes(), line)?;
-        assert_eq!(rt; status, Some(Status::Refused));
+fn writes_the_text(rt: HostRuntime) -> Result<(), Fail> {
+    for (source, text) in &WRITTEN {
+        assert!(rt; is_text(rt.alloc(), source.as_bytes(), text.as_bytes())?);
     }
     Ok(())
 }
 
 #[test]
-fn says_what_was_not_read(rt: HostRuntime) -> Result<(), Fail> {
-    let alloc = rt.alloc();
-    let usage = status_with_line(alloc, &[], b"", "usage: ms2 FILE\n")?;
-    assert_eq!(rt; usage, Some(Status::Usage));
-    let mut shelf = MemoryShelf::new(alloc, 7, List::from_vec(Vec::new(alloc)));
-    let mut err = sink(alloc, &[])?;
-    let missing = answer_over(
-        alloc,
-        &["a.c"],
-        &mut shelf,
-        &mut sink(alloc, &[])?,
-        &mut err,
-    )?;
-    assert_eq!(rt; missing, Status::Read);
-    assert_eq!(rt; err.held(), b"ms2: cannot read a.c\n".as_slice());
+fn says_where_and_why(rt: HostRuntime) -> Result<(), Fail> {
+    for (source, line) in &LINES {
+        let status = status_with_line(rt.alloc(), source.as_bytes(), line.as_bytes())?;
+        assert_eq!(rt; status, Some(Status::Refused));
+    }
+    Ok(())
+}
+
+fn push_many(bytes: &mut Vec<u8>, byte: u8, count: usize) -> Result<(), Fail> {
+    for _ in 0..count {
+        bytes.push(byte)?;
+    }
+    Ok(())
+}
+
+fn deep_source(alloc: Global, deep: &Deep) -> Result<Vec<u8>, Fail> {
+    let mut source = b"int x = ".to_vec(alloc)?;
+    push_many(&mut source, deep.byte, deep.count)?;
+    source.extend_from_slice(deep.middle.as_bytes())?;
+    push_many(&mut source, deep.closing, deep.closing_count)?;
+    source.push(b';')?;
+    Ok(source)
+}
+
+#[test]
+fn takes_a_thousand_levels(rt: HostRuntime) -> Result<(), Fail> {
+    for deep in &DEEP {
+        let source = deep_source(rt.alloc(), deep)?;
+        assert_eq!(rt; length_of(rt.alloc(), &source)?, deep.length);
+        let status = status_with_line(rt.alloc(), &source, deep.line.as_bytes())?;
+        assert!(rt; status.is_some());
+    }
+    Ok(())
+}
+
+fn spaces(alloc: Global, count: usize) -> Result<Vec<u8>, Fail> {
+    let mut source = Vec::new(alloc);
+    push_many(&mut source, b' ', count)?;
+    Ok(source)
+}
+
+/// Each of its statements is a line with 4,000 spaces.
+fn wide_source(alloc: Global) -> Result<Vec<u8>, Fail> {
+    let mut source = b"void f(void) {".to_vec(alloc)?;
+    push_many(&mut source, b'{', 999)?;
+    push_many(&mut source, b';', 17_000)?;
+    push_many(&mut source, b'}', 1000)?;
+    Ok(source)
+}
+
+#[test]
+fn keeps_the_limits(rt: HostRuntime) -> Result<(), Fail> {
+    let most = spaces(rt.alloc(), 4_194_304)?;
+    assert!(rt; is_text(rt.alloc(), &most, b"")?);
+    let more = spaces(rt.alloc(), 4_194_305)?;
+    let status = status_with_line(rt.alloc(), &more, b"a.c: too large\n")?;
+    assert_eq!(rt; status, Some(Status::Limit));
+    Ok(())
+}
+
+#[test]
+fn keeps_the_limit_of_texts(rt: HostRuntime) -> Result<(), Fail> {
+    let source = wide_source(rt.alloc())?;
+    let status = status_with_line(rt.alloc(), &source, b"ms2: text too large\n")?;
+    assert_eq!(rt; status, Some(Status::Limit));
+    Ok(())
+}
+
+/// The status of words over a shelf with an empty file `a.c`, if this is the line of the run.
+fn status_of_words(alloc: Global, words: &[&str], line: &[u8]) -> Result<Option<Status>, Fail> {
+    let mut shelf = shelf_of(alloc, b"")?;
+    let mut err = sink(alloc, 0)?;
+    let status = run_with(alloc, words, &mut shelf, &mut sink(alloc, 0)?, &mut err)?;
+    if err.held() == line {
+        Ok(Some(status))
+    } else {
+        Ok(None)
+    }
+}
+
+#[test]
+fn answers_for_words(rt: HostRuntime) -> Result<(), Fail> {
+    let usage = b"usage: ms2 FILE\n";
+    assert_eq!(rt;
+        status_of_words(rt.alloc(), &[], usage)?,
+        Some(Status::Usage)
+    );
+    assert_eq!(rt;
+        status_of_words(rt.alloc(), &["a.c", "a.c"], usage)?,
+        Some(Status::Usage)
+    );
+    assert_eq!(rt;
+        status_of_words(rt.alloc(), &["--help"], usage)?,
+        Some(Status::Usage)
+    );
+    let absent = b"ms2: cannot read none.c\n";
+    assert_eq!(rt;
+        status_of_words(rt.alloc(), &["none.c"], absent)?,
+        Some(Status::Read)
+    );
+    Ok(())
+}
+
+/// The status of a run where the call of the shelf of this number fails, if nothing is written but with Done.
+fn status_of_read(alloc: Global, failing: u64) -> Result<Option<Status>, Fail> {
+    let mut shelf = failing_shelf(alloc, failing, b"int x = 1;")?;
+    let mut out = sink(alloc, 0)?;
+    let status = run_with(alloc, &["a.c"], &mut shelf, &mut out, &mut SureSink::new())?;
+    if status == Status::Done || out.held().is_empty() {
+        Ok(Some(status))
+    } else {
+        Ok(None)
+    }
+}
+
+/// The status of a run where the send of this number fails, if `out` then holds this.
+fn status_of_write(alloc: Global, failing: u64, held: &[u8]) -> Result<Option<Status>, Fail> {
+    let mut out = sink(alloc, failing)?;
+    let status = run_over(alloc, b"int x = 1;", &mut out, &mut SureSink::new())?;
+    if out.held() == held {
+        Ok(Some(status))
+    } else {
+        Ok(None)
+    }
+}
+
+#[test]
+fn answers_for_faults(rt: HostRuntime) -> Result<(), Fail> {
+    for (failing, want) in &READ_FAULTS {
+        assert_eq!(rt; status_of_read(rt.alloc(), *failing)?, Some(*want));
+    }
+    for (failing, held) in &WRITE_FAULTS {
+        let status = status_of_write(rt.alloc(), *failing, held.as_bytes())?;
+        assert_eq!(rt; status, Some(Status::Write));
+    }
     Ok(())
 }
 
 #[test]
 fn keeps_the_status_where_the_line_fails(rt: HostRuntime) -> Result<(), Fail> {
     // The name and a colon take a send each, and the number of the line would take the third.
-    let mut err = sink(rt.alloc(), &[3])?;
-    let status = line_of(rt.alloc(), &["a.c"], b"?", &mut err)?;
+    let mut err = sink(rt.alloc(), 3)?;
+    let status = run_over(rt.alloc(), b"?", &mut sink(rt.alloc(), 0)?, &mut err)?;
     assert_eq!(rt; status, Status::Refused);
     assert_eq!(rt; err.held(), b"a.c:".as_slice());
     Ok(())

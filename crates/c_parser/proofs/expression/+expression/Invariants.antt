@@ -1,4 +1,0 @@
-use Rattle.c_parser.proofs.expression.+expression.Given as goal
-
-abbrev pub decreases-expression : goal.decreases-expression
-decreases-expression l = l.depth

@@ -1,3 +1,0 @@
-pub mod Cursor
-pub mod Nests
-pub mod Answers

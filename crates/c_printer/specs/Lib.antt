@@ -1,4 +1,0 @@
-pub mod Texts
-pub mod Spelled
-pub mod Layout
-pub mod ReadBack

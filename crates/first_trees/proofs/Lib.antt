@@ -1,2 +1,0 @@
-pub mod CallViews
-pub mod ItemViews

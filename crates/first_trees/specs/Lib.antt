@@ -1,4 +1,0 @@
-pub mod Calls
-pub mod Named
-pub mod Built
-pub mod Items

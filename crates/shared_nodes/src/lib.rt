@@ -1,8 +1,0 @@
-//! Nodes that several trees may hold at once.
-#![tactic(auto)]
-
-mod shared;
-#[cfg(test)]
-mod tests;
-
-pub use shared::Shared;

@@ -1,4 +1,0 @@
-pub mod FormViews
-pub mod Filled
-pub mod Kept
-pub mod Worked
