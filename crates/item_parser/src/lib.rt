@@ -4,3 +4,6 @@
 mod items;
 
 pub use items::read_item;
+
+#[cfg(test)]
+mod tests;
